@@ -1,0 +1,4 @@
+pub mod Groups
+pub mod Name
+pub mod NameRoom
+pub mod Version

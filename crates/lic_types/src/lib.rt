@@ -1,0 +1,22 @@
+//! The plain types that every part of the licence daemon speaks of: names, versions, clients, rules, groups, days and
+//! notes, and the error for want of memory.
+#![tactic(auto)]
+
+mod client;
+mod day;
+mod group;
+mod memory;
+mod name;
+mod note;
+mod version;
+
+pub use client::{Client, Rule, RuleLine, Who, WhoKind};
+pub use day::{Day, Expiry};
+pub use group::Group;
+pub use memory::NoMemory;
+pub use name::{Name, NameFault};
+pub use note::{Note, NoteKind};
+pub use version::Version;
+
+#[cfg(test)]
+mod tests;

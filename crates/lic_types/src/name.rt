@@ -1,0 +1,133 @@
+ghost use Rattle.std.specs.Prelude.{◌≡◌, ◌<◌, ◌≤◌, IfSome, length, not};
+ghost use Rattle.std.specs.List.{position_from};
+ghost use Rattle.lic_types.specs.Name.{IsName, filled, is_name_byte, name_of};
+
+use std::fmt;
+use std::fmt::Write;
+use std::marker::Model;
+use thiserror::Error;
+
+/// Why a word is no name. The faults are tried in this order.
+#[derive(Clone, Copy, Debug, PartialEq, Eq, Error)]
+pub enum NameFault {
+    /// It has no byte.
+    #[error("an empty name")]
+    Empty,
+    /// It has more than 64 bytes.
+    #[error("a name of more than 64 bytes")]
+    TooLong,
+    /// The byte at this place, counted from 0, is the first that isn't from 33 to 126.
+    #[error("a name with a bad byte at {0}")]
+    BadByte(u32),
+}
+
+/// The name of a feature, a vendor, a user, a host, a display, a project or a group: 1 to 64 bytes from 33 to 126,
+/// which a clause sees as their list. Names are compared as exact bytes (this project).
+#[derive(Clone, Copy)]
+pub struct Name {
+    len: u8,
+    room: [u8; 64],
+}
+
+impl Model for Name {
+    ghost use Rattle.std.specs.Prelude.{List, ℕ, length, take, ◌++◌, replicate, ◌-◌};
+    ghost use Rattle.lic_types.specs.NameRoom.{IsStored, from_bytes, room_again};
+
+    ghost Value = { List ℕ };
+
+    ghost view = { λ n. take n.len n.room };
+
+    ghost invariant = { λ n. IsStored n.len n.room };
+
+    ghost inverse = { from_bytes };
+
+    ghost inverse_ok = { room_again };
+}
+
+impl PartialEq for Name {
+    ghost use Rattle.std.specs.Prelude.{nat_eq};
+    ghost use Rattle.std.specs.Cmp.Lexicographic.{pointwise, nat_list_eq_equiv};
+    ghost use Rattle.std.specs.Cmp.{partial_equiv_from_equiv};
+
+    ghost eq = { pointwise nat_eq };
+
+    ghost laws = { partial_equiv_from_equiv nat_list_eq_equiv };
+
+    fn eq(&self, other: &Self) -> bool {
+        self.bytes() == other.bytes()
+    }
+}
+
+impl fmt::Display for Name {
+    fn fmt<W: fmt::Write>(&self, f: &mut fmt::Formatter<W>) -> fmt::Result {
+        for byte in self.bytes() {
+            f.write_char(char::from(*byte))?;
+        }
+        Ok(())
+    }
+}
+
+impl fmt::Debug for Name {
+    fn fmt<W: fmt::Write>(&self, f: &mut fmt::Formatter<W>) -> fmt::Result {
+        write!(f, "Name({self})")
+    }
+}
+
+impl Eq for Name {
+    ghost use Rattle.std.specs.Cmp.Lexicographic.{nat_list_eq_equiv};
+
+    ghost laws = { nat_list_eq_equiv };
+}
+
+fn is_name_byte(b: u8) -> bool
+    ensures { result ≡ is_name_byte b }
+{
+    33 <= b && b <= 126
+}
+
+/// The first byte that no name has.
+fn first_bad(word: &[u8]) -> Option<usize>
+    ensures first { result ≡ position_from (λ b. not (is_name_byte b)) 0 word.now }
+    ensures within { IfSome result (λ at. at < length word.now) }
+{
+    word.iter().position(|b| !is_name_byte(*b))
+}
+
+/// The word, and zeros after it.
+fn room_of(word: &[u8]) -> [u8; 64]
+    requires { length word.now ≤ 64 }
+    ensures { result ≡ filled word.now }
+{
+    let mut room = [0u8; 64];
+    room[..word.len()].copy_from_slice(word);
+    room
+}
+
+impl Name {
+    /// The name that a word spells: the same bytes, or the first fault of the word.
+    pub fn read(word: &[u8]) -> Result<Name, NameFault>
+        ensures { result ≡ name_of word.now }
+    {
+        if word.is_empty() {
+            return Err(NameFault::Empty);
+        }
+        if word.len() > 64 {
+            return Err(NameFault::TooLong);
+        }
+        match first_bad(word) {
+            Some(at) => Err(NameFault::BadByte(at as u32)),
+            None => Ok(Name {
+                len: word.len() as u8,
+                room: room_of(word),
+            }),
+        }
+    }
+
+    /// Its bytes, in order.
+    pub fn bytes(&self) -> &[u8]
+        ensures bytes { result.now ≡ self.now }
+        ensures name { IsName self.now }
+    {
+        &self.room[..self.len as usize]
+    }
+}
