@@ -1,0 +1,16 @@
+//! The outside as the tools see it: files that are read whole and sinks that take bytes, each with a count of its
+//! faults; both in memory for tests, and over the real system.
+#![tactic(auto)]
+
+mod files;
+mod memory;
+mod real;
+mod sink;
+
+pub use files::{FileFault, Files};
+pub use memory::{MemFile, MemFiles, MemSink};
+pub use real::{RealFiles, RealSink};
+pub use sink::{Sink, WriteFailed};
+
+#[cfg(test)]
+mod tests;
