@@ -1,0 +1,39 @@
+ghost use Rattle.std.specs.Prelude.{◌≡◌, not};
+ghost use Rattle.lic_text.specs.Physical.{is_empty};
+
+use crate::words::Words;
+
+/// A logical line with words.
+#[derive(Clone, Copy)]
+pub struct Line<'a> {
+    pub(crate) first: u32,
+    // The file from the line's first byte on.
+    pub(crate) from: &'a [u8],
+}
+
+impl<'a> Line<'a> {
+    ghost use Rattle.lic_text.specs.Left.{worded, words_left};
+
+    /// The number of its first physical line, counted from 1.
+    pub fn first(&self) -> u32
+        ensures { result ≡ (worded self.now).0 }
+    {
+        self.first
+    }
+
+    /// Its words in order, each a slice of the file: the longest runs of bytes that are neither space nor tab.
+    pub fn words(&self) -> Words<'a>
+        ensures { words_left result ≡ (worded self.now).1 }
+    {
+        Words {
+            text: &[],
+            further: self.from,
+        }
+    }
+
+    pub(crate) fn has_words(&self) -> bool
+        ensures { result ≡ not (is_empty (worded self.now).1) }
+    {
+        self.words().next().is_some()
+    }
+}

@@ -1,0 +1,71 @@
+ghost use Rattle.std.specs.Prelude.{◌≡◌, ◌+◌, ◌<◌, ◌^◌, ◌∷◌, length, MatchOption};
+
+use crate::extent::measure;
+use crate::fault::TextFault;
+use crate::judge::fault_of;
+use crate::line::Line;
+use crate::physical::{cut_line, is_comment};
+
+/// The logical lines of a file, each with its number and words, up to the first fault.
+///
+/// Comments and lines without words are passed over.
+#[derive(Drop)]
+pub struct Lines<'a> {
+    pub(crate) rest: &'a [u8],
+    // How many physical lines stand before the rest.
+    pub(crate) passed: u32,
+    ghost fits: { passed + length rest.now < 2 ^ 32 },
+}
+
+impl<'a> Lines<'a> {
+    ghost use Rattle.lic_text.specs.LinesLeft.{lines_left, shown};
+
+    // Reads one comment or one logical line.
+    fn step(&mut self) -> Option<Result<Line<'a>, TextFault>>
+        requires { 0 < length self.old.rest.now }
+        ensures told { MatchOption result (lines_left self.old ≡ lines_left self.new) (λ told. lines_left self.old ≡ shown told ∷ lines_left self.new) }
+        ensures nearer { length self.new.rest.now < length self.old.rest.now }
+    {
+        let from = self.rest;
+        let first = self.passed + 1;
+        let (text, behind) = cut_line(from);
+        if is_comment(text) {
+            self.rest = behind;
+            self.passed = first;
+            return None;
+        }
+        let extent = measure(from);
+        if let Some(fault) = fault_of(first, &extent) {
+            self.rest = &[];
+            return Some(Err(fault));
+        }
+        self.rest = extent.rest;
+        self.passed += extent.count;
+        let line = Line { first, from };
+        if line.has_words() {
+            Some(Ok(line))
+        } else {
+            None
+        }
+    }
+}
+
+impl<'a> Iterator for Lines<'a> {
+    ghost use Rattle.std.specs.Iterator.{YieldsFirstBy, item_count};
+    ghost use Rattle.lic_text.specs.LinesLeft.{lines_left, shown};
+
+    type Item = Result<Line<'a>, TextFault>;
+
+    ghost next_gives = { YieldsFirstBy shown lines_left };
+
+    ghost remaining = { item_count lines_left };
+
+    fn next(&mut self) -> Option<Result<Line<'a>, TextFault>> {
+        while !self.rest.is_empty() {
+            if let Some(told) = self.step() {
+                return Some(told);
+            }
+        }
+        None
+    }
+}

@@ -1,0 +1,74 @@
+ghost use Rattle.std.specs.Prelude.{◌≡◌, ◌<◌, ◌∷◌, [], length, MatchOption};
+ghost use Rattle.lic_text.specs.Physical.{physical_lines};
+ghost use Rattle.lic_text.specs.Lines.{words_of};
+ghost use Rattle.lic_text.specs.Front.{joined_text};
+
+use crate::physical::{after_blanks, cut_line, strip_last, word_end};
+
+/// The words of a logical line, each a slice of the file.
+#[derive(Clone, Copy)]
+pub struct Words<'a> {
+    // What is left of the physical line that is read.
+    pub(crate) text: &'a [u8],
+    // The file from the physical line on that continues it; empty where none does.
+    pub(crate) further: &'a [u8],
+}
+
+impl<'a> Words<'a> {
+    ghost use Rattle.lic_text.specs.Left.{words_left};
+
+    // The next word of the physical line that is read.
+    fn next_here(&mut self) -> Option<&'a [u8]>
+        ensures further { self.new.further.now ≡ self.old.further.now }
+        ensures word { MatchOption result ((words_of self.old.text.now ≡ []) × (words_of self.new.text.now ≡ [])) (λ word. words_of self.old.text.now ≡ word.now ∷ words_of self.new.text.now) }
+    {
+        let text = after_blanks(self.text);
+        if text.is_empty() {
+            self.text = text;
+            return None;
+        }
+        let (word, text) = text.split_at(word_end(text));
+        self.text = text;
+        Some(word)
+    }
+
+    // Goes on to the next physical line.
+    fn go_on(&mut self)
+        requires { 0 < length self.old.further.now }
+        ensures words { words_left self.new ≡ words_of (joined_text (physical_lines self.old.further.now)) }
+        ensures nearer { length self.new.further.now < length self.old.further.now }
+    {
+        let (text, rest) = cut_line(self.further);
+        match strip_last(text, b'\\') {
+            Some(front) => {
+                self.text = front;
+                self.further = rest;
+            }
+            None => {
+                self.text = text;
+                self.further = &[];
+            }
+        }
+    }
+}
+
+impl<'a> Iterator for Words<'a> {
+    ghost use Rattle.std.specs.Iterator.{YieldsFirstBy, item_count};
+    ghost use Rattle.lic_text.specs.Left.{words_left};
+
+    type Item = &'a [u8];
+
+    ghost next_gives = { YieldsFirstBy (λ word. word.now) words_left };
+
+    ghost remaining = { item_count words_left };
+
+    fn next(&mut self) -> Option<&'a [u8]> {
+        while !self.further.is_empty() {
+            if let Some(word) = self.next_here() {
+                return Some(word);
+            }
+            self.go_on();
+        }
+        self.next_here()
+    }
+}
