@@ -17,3 +17,6 @@ pub use file::lines;
 pub use line::Line;
 pub use logical::Lines;
 pub use words::Words;
+
+#[cfg(test)]
+mod tests;
