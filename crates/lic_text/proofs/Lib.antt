@@ -5,3 +5,4 @@ pub mod Parts
 pub mod Fronts
 pub mod Joins
 pub mod Steps
+pub mod WordsOf

@@ -1,5 +1,5 @@
-use Rattle.std.specs.Prelude.{ℕ, ◌+◌, Bool, true, false, ◌&&◌, not, nat_lt, if◌then◌else◌, List, [], ◌∷◌, ◌++◌, length, filter, map, Option, None, Some, is_none, unwrap_or, Result, Ok, Err}
-use Rattle.std.specs.List.{slice_split}
+use Rattle.std.specs.Prelude.{◌≡◌, ◌==◌, ℕ, ◌+◌, Bool, true, false, ◌&&◌, not, nat_lt, if◌then◌else◌, List, [], ◌∷◌, ◌++◌, length, filter, map, Option, None, Some, is_none, unwrap_or, Result, Ok, Err}
+use Rattle.std.specs.List.{slice_split, AllByRecursion}
 use Rattle.std.specs.Option.{option_to_list}
 use Rattle.lic_text.specs.Physical.{is_blank, is_empty, physical_lines, is_comment, is_continued, front_of}
 use Rattle.lic_text.specs.declared.fault.TextFault.{TextFault}
@@ -82,3 +82,20 @@ lines_from number texts = up_to_fault (filter tells (map judged (logical_lines t
 -- the lines of a file
 abbrev pub lines_of : List ℕ → List (Result Worded TextFault)
 lines_of file = lines_from 1 (physical_lines file)
+
+-- a byte of a word: no space, no tab, no LF
+abbrev pub IsWordByte : ℕ → Type 0
+IsWordByte b = (is_blank b ≡ false) × ((b == 10) ≡ false)
+
+-- one byte or more, each of them a byte of a word
+abbrev pub IsWord : List ℕ → Type 0
+IsWord word = (is_empty word ≡ false) × AllByRecursion IsWordByte word
+
+-- a line has one word or more, and its words are words
+abbrev pub HasWords : Result Worded TextFault → Type 0
+HasWords (Ok line) = (is_empty line.1 ≡ false) × AllByRecursion IsWord line.1
+HasWords (Err fault) = Unit {0}
+
+-- each line of a file has words, none of them with a blank or an LF
+abbrev pub WordsAreWords : Type 0
+WordsAreWords = (file : List ℕ) → AllByRecursion HasWords (lines_of file)
