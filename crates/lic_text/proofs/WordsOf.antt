@@ -1,4 +1,4 @@
-use Rattle.std.proofs.Common.{◌≡◌, ◌==◌, ℕ, zero, suc, ◌+◌, ◌-◌, if◌then◌else◌, Bool, true, false, not, List, [], ◌∷◌, ◌++◌, length, take, filter, map, Option, None, Some, Result, Ok, Err, refl, sym, ap, ◌∙◌}
+use Rattle.std.proofs.Common.{◌≡◌, ◌==◌, ℕ, zero, suc, ◌+◌, ◌-◌, if◌then◌else◌, Bool, true, false, not, List, [], ◌∷◌, ◌++◌, length, take, filter, map, Option, None, Some, Result, Ok, Err, refl}
 use Rattle.std.specs.List.{slice_split, onto_first, AllByRecursion}
 use Rattle.lic_text.specs.Physical.{is_blank, is_empty, front_of, ends_in, without_return, without_empty_end, physical_lines, is_comment, is_continued}
 use Rattle.lic_text.specs.Lines.{Logical, new_line, joined, with_line, ended, still_open, logical_lines, words_of, fault_of, unless_fault, judged, tells, up_to_fault, lines_from, lines_of, Worded, IsWordByte, IsWord, HasWords}
@@ -30,7 +30,7 @@ all-filter P Q p [] f all = tt
 all-filter P Q p (x ∷ xs) f all = filter_step Q p x xs (p x) refl (f x all.0) (all-filter P Q p xs f all.1)
 
 -- what holds of both values holds of the one chosen
-of_either : {X : Type 0} (P : X → Type 0) (b : Bool) (x y : X) → P x → P y → P (if b then x else y)
+pub of_either : {X : Type 0} (P : X → Type 0) (b : Bool) (x y : X) → P x → P y → P (if b then x else y)
 of_either P true x y h g = h
 of_either P false x y h g = g
 

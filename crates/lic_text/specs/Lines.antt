@@ -1,4 +1,4 @@
-use Rattle.std.specs.Prelude.{◌≡◌, ◌==◌, ℕ, ◌+◌, Bool, true, false, ◌&&◌, not, nat_lt, if◌then◌else◌, List, [], ◌∷◌, ◌++◌, length, filter, map, Option, None, Some, is_none, unwrap_or, Result, Ok, Err}
+use Rattle.std.specs.Prelude.{◌≡◌, ◌<◌, ◌==◌, ℕ, ◌+◌, Bool, true, false, ◌&&◌, not, nat_lt, if◌then◌else◌, List, [], ◌∷◌, ◌++◌, length, filter, map, Option, None, Some, is_none, unwrap_or, Result, Ok, Err}
 use Rattle.std.specs.List.{slice_split, AllByRecursion}
 use Rattle.std.specs.Option.{option_to_list}
 use Rattle.lic_text.specs.Physical.{is_blank, is_empty, physical_lines, is_comment, is_continued, front_of}
@@ -99,3 +99,18 @@ HasWords (Err fault) = Unit {0}
 -- each line of a file has words, none of them with a blank or an LF
 abbrev pub WordsAreWords : Type 0
 WordsAreWords = (file : List ℕ) → AllByRecursion HasWords (lines_of file)
+
+-- the number of a line, or of a fault
+abbrev pub number_at : Result Worded TextFault → ℕ
+number_at (Ok line) = line.0
+number_at (Err (LineTooLong first)) = first
+number_at (Err (OpenContinuation first)) = first
+
+-- each number is above the one before, and the first above this one
+abbrev pub RisesAbove : ℕ → List (Result Worded TextFault) → Type 0
+RisesAbove number [] = Unit {0}
+RisesAbove number (line ∷ others) = (number < number_at line) × RisesAbove (number_at line) others
+
+-- the numbers of the lines of a file rise from 1
+abbrev pub NumbersRise : Type 0
+NumbersRise = (file : List ℕ) → RisesAbove 0 (lines_of file)

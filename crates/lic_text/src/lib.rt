@@ -15,7 +15,7 @@ mod words;
 pub use digits::number;
 pub use fault::TextFault;
 pub use file::lines;
-pub use laws::words_are_words;
+pub use laws::{numbers_rise, words_are_words};
 pub use line::Line;
 pub use logical::Lines;
 pub use words::Words;

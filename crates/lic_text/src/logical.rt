@@ -6,9 +6,7 @@ use crate::judge::fault_of;
 use crate::line::Line;
 use crate::physical::{cut_line, is_comment};
 
-/// The logical lines of a file, each with its number and words, up to the first fault.
-///
-/// Comments and lines without words are passed over.
+/// The logical lines of a file, each with its number and words. They end after the first fault.
 #[derive(Drop)]
 pub struct Lines<'a> {
     pub(crate) rest: &'a [u8],
