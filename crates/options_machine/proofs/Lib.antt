@@ -1,0 +1,11 @@
+pub mod Counts
+pub mod Places
+pub mod Keeps
+pub mod Steps
+pub mod Bounds
+pub mod Served
+pub mod Runs
+pub mod Owns
+pub mod OwnSteps
+pub mod Quits
+pub mod Cuts

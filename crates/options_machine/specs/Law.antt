@@ -1,0 +1,37 @@
+use Rattle.std.specs.Prelude.{◌≡◌, ℕ, ◌≤◌, ◌<◌, true, false, nat_le, List, length}
+use Rattle.std.specs.List.{list_all, list_any}
+use Rattle.options_machine.specs.declared.reply.Charge.TheVariants.{Reserve}
+use Rattle.options_machine.specs.declared.reply.Entry.{Entry}
+use Rattle.options_machine.specs.declared.limits.Limit.{Limit}
+use Rattle.options_machine.specs.declared.rows.Queuer.{Queuer}
+use Rattle.options_machine.specs.Rules.{IsSound, Rules}
+use Rattle.options_machine.specs.State.{State, charges, entries, in_force, in_use, set_at}
+use Rattle.options_machine.specs.Decide.{decide, is_seat}
+use Rattle.options_machine.specs.Settle.{settle}
+use Rattle.options_machine.specs.Run.{IsRun, after}
+
+-- the rule sets of a pool of this count: one to four
+pub record AreSets (sets : List Rules) (count : ℕ) : Type 0 where
+  pub some : 0 < length sets
+  pub few : length sets ≤ 4
+  pub sound : (n : ℕ) → n < length sets → IsSound (set_at sets n)
+  pub same : (n : ℕ) → n < length sets → (set_at sets n).count ≡ count
+
+-- what holds in every state of a run: seats in use are at most the count, each RESERVE line of the set that holds has at most its cut number of charges, and each party has at most one entry in holders and queue together
+pub record IsLawful (sets : List Rules) (count : ℕ) (s : State) : Type 0 where
+  pub set : s.set < length sets
+  pub within : in_use s ≤ count
+  pub reserved : list_all (λ (m : Limit). nat_le (charges s (Reserve m.line.line)) m.number) (in_force sets s).reserves ≡ true
+  pub single : (party : ℕ) → entries s party ≤ 1
+
+-- nobody waits who could have a seat
+abbrev pub IsServed : Rules → State → Type 0
+IsServed r s = list_any (λ (q : Queuer). is_seat (decide r s q.client)) s.queue ≡ false
+
+-- every state of a run is lawful
+abbrev pub RunsAreLawful : Type 0
+RunsAreLawful = (sets : List Rules) (count : ℕ) (h : List Entry) → AreSets sets count → IsRun sets h → IsLawful sets count (after sets h)
+
+-- right after settling nobody waits who could have a seat
+abbrev pub SettlingServes : Type 0
+SettlingServes = (r : Rules) (s : State) (moment : ℕ) → IsServed r (settle r s moment)

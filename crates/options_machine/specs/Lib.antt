@@ -1,0 +1,10 @@
+pub mod Groups
+pub mod Rules
+pub mod State
+pub mod Decide
+pub mod Settle
+pub mod Step
+pub mod Run
+pub mod Law
+pub mod Own
+pub mod Kept
