@@ -1,0 +1,119 @@
+ghost use Rattle.std.specs.Prelude.{◌≡◌, ℕ, ◌+◌, ◌<◌, ◌≤◌, ◌^◌, ◌∷◌, [], ◌↔◌, IfOk, IsTrue, length};
+ghost use Rattle.policy.specs.Kept.{Book};
+ghost use Rattle.options_machine.specs.Law.{AreSets, IsLawful};
+ghost use Rattle.options_machine.specs.Run.{AsksForSet, IsBelow};
+ghost use Rattle.options_machine.specs.State.{opening, in_force};
+ghost use Rattle.options_machine.specs.Step.{set_asked, step};
+
+use crate::answers::{MOST_LINGERING, answer, charge_anew};
+use crate::lists::{Lists, settle};
+use crate::rules::DeskRules;
+use lic_types::NoMemory;
+use options_machine::{Kind, Reply, Request};
+use std::alloc::Global;
+use std::marker::Model;
+
+/// The options machine of one pool, kept as lists: the plain reference. A clause sees it as its rule sets, the number of
+/// parties that it is for, and the state of the machine.
+#[derive(Drop)]
+pub struct PlainBook {
+    sets: Vec<DeskRules>,
+    parties: u32,
+    lists: Lists,
+}
+
+impl Model for PlainBook {
+    ghost use Rattle.policy.specs.Kept.{Book, IsBookKept, state_of};
+
+    ghost Value = { Book };
+
+    ghost view = { λ b. record { sets = b.sets.items; parties = b.parties; state = state_of b.lists } };
+
+    ghost invariant = { λ b. IsBookKept b.sets.items b.parties b.lists };
+}
+
+impl PlainBook {
+    /// A book in the opening state, with one to four rule sets of one count, for the parties below `n`. The set of number
+    /// 0 holds until a request asks for another. The room for all that parties may ask for later is taken here.
+    pub fn make_many(alloc: Global, sets: Vec<DeskRules>, n: u32) -> Result<PlainBook, NoMemory>
+        requires sets { AreSets sets.items (in_force sets.items opening).count }
+        requires parties { n ≤ 256 }
+        ensures { IfOk result (λ book. book ≡ record { sets = sets.items; parties = n; state = opening }) }
+    {
+        let holders = Vec::with_capacity(alloc, n as usize)?;
+        let lingering = Vec::with_capacity(alloc, MOST_LINGERING)?;
+        let queue = Vec::with_capacity(alloc, n as usize)?;
+        Ok(PlainBook {
+            sets,
+            parties: n,
+            lists: Lists {
+                holders,
+                lingering,
+                queue,
+                moment: 0,
+                set: 0,
+            },
+        })
+    }
+
+    /// A book in the opening state, with one rule set, for the parties below `n`.
+    pub fn make(alloc: Global, rules: DeskRules, n: u32) -> Result<PlainBook, NoMemory>
+        requires parties { n ≤ 256 }
+        ensures { IfOk result (λ book. book ≡ record { sets = rules ∷ []; parties = n; state = opening }) }
+    {
+        let sets = rules.alone(alloc)?;
+        PlainBook::make_many(alloc, sets, n)
+    }
+
+    /// How many parties it is for: the `n` of its making.
+    pub fn parties(&self) -> u32
+        ensures { result ≡ self.now.parties }
+    {
+        self.parties
+    }
+
+    /// Whether a request of this kind may be made: where it asks for a rule set, there is one of that number.
+    pub fn has_set(&self, kind: &Kind) -> bool
+        ensures { IsTrue result ↔ IsBelow (set_asked kind.now) (length self.now.sets) }
+    {
+        match kind {
+            Kind::Reread(n) => (*n as usize) < self.sets.len(),
+            Kind::Checkout => true,
+            Kind::Checkin => true,
+            Kind::Beat => true,
+            Kind::Look => true,
+            Kind::Quit => true,
+            Kind::Count => true,
+            Kind::Queue => true,
+        }
+    }
+
+    /// One step of the machine at a moment, in seconds since 1970-01-01 UTC: what is over goes, the queue is served, and the
+    /// request is answered. The number is the moment that the step used: the later of the handed one, which counts as
+    /// 2^40 - 1 at most, and the last one used. It takes no memory.
+    pub fn step(&mut self, request: &Request, moment: u64) -> (Reply, u64)
+        requires party { request.now.party < self.old.parties }
+        requires fits { AsksForSet self.old.sets request.now }
+        ensures step { (result.0, self.new.state) ≡ step self.old.sets self.old.state request.now moment }
+        ensures moment { result.1 ≡ self.new.state.now }
+        ensures same { (self.new.sets ≡ self.old.sets) × (self.new.parties ≡ self.old.parties) }
+    {
+        settle(&self.sets[self.lists.set as usize], &mut self.lists, moment);
+        let now = self.lists.moment;
+        let reply = match request.kind {
+            Kind::Reread(n) => {
+                self.lists.set = n;
+                charge_anew(&self.sets[n as usize], &mut self.lists);
+                Reply::Reread(n)
+            }
+            _ => answer(
+                &self.sets[self.lists.set as usize],
+                &mut self.lists,
+                request.party,
+                &request.client,
+                &request.kind,
+            ),
+        };
+        (reply, now)
+    }
+}
