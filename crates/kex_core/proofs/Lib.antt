@@ -1,0 +1,16 @@
+pub mod Thresholds
+pub mod Sums
+pub mod Paths
+pub mod Moves
+pub mod Steps
+pub mod Bounds
+pub mod Keeps
+pub mod Readings
+pub mod Runs
+pub mod Walks
+pub mod Lists
+pub mod Worlds
+pub mod Openings
+pub mod Costs
+pub mod Exports
+pub mod Accesses
