@@ -1,0 +1,67 @@
+-- The value goes home.
+use Rattle.std.proofs.Common.{◌≡◌, ◌≢◌, ◌⊎◌, ℕ, zero, suc, ◌+◌, ◌-◌, ◌%◌, ◌^◌, ◌<◌, ◌≤◌, Bool, true, false, List, [], ◌∷◌, ◌++◌, length, map, get_or, set, sym, refl, ap, ◌∙◌, subst, ⊎_elim, inl, inr, arith, Option, Some, None, length-set, get_or-set_other, get_or-set_same, length-append, append-nil, append_assoc, eqb, ne_eqb, eq-eqb, cond, All}
+use mathlib.Core.Logic.{dite}
+use mathlib.Core.Option.{none, some, some-injective, some-ne-none}
+use mathlib.Core.Option as maybe
+use native.Mathlib.Decide.{ℕ_discrete, dec_le}
+use lib.ListN.{get_elem?}
+use Rattle.atomic_table.specs.Table.{State, Me, step, keeps, takes, gives, Allows, Splits, Joins, opening, Final, Seen}
+use Rattle.atomic_table.proofs.Lists.{at_map, at_set, set_else, at_last, at_longer, one_turn}
+use Rattle.turn_lock.specs.declared.kept.Entry.{Entry}
+use Rattle.turn_lock.specs.declared.view.Role.{Role}
+use Rattle.turn_lock.specs.declared.view.Role.TheVariants.{Maker, Party, Spent}
+use Rattle.turn_lock.specs.declared.view.Stage.{Stage}
+use Rattle.turn_lock.specs.declared.view.Stage.TheVariants.{Idle, Waiting, Turn, Out, Counted, Home}
+use Rattle.turn_lock.specs.declared.view.Joined.{Joined}
+use Rattle.turn_lock.specs.declared.view.View.{View}
+use Rattle.turn_lock.specs.Entries.{IsPrefix, own}
+use Rattle.turn_lock.specs.Passes.{Pass, Closes}
+use Rattle.turn_lock.specs.Rule.{total, has_ticket, is_out, weigh, weight, tickets_in, made_of, number_of, Stays, Standing, Making, Fits, HasNumber, HasSeen, IsLongest, IsIn, IsOut, Ruled}
+use Rattle.turn_lock.specs.Steps.{maker, spent, dealt, newcomer, joined_of, both, seated, shown, longer, StandsFor, IsGathered, took, drew, watched, counted, gave, passed}
+use Rattle.turn_lock.proofs.Members.{total_set, total_le, total_two, total_snoc, each_set, each_snoc, set_at, at_inside, at_append, at_behind, at_unmap, at_one, all_at, at_all}
+use Rattle.turn_lock.proofs.Keeps.{kept_set, longest_set, restage, knows, stage_is, value_set, value_stays, alone, is_in, not_home, same_words, few_tickets, reload}
+
+module _ {V L Q A : Type 0} (law_of : V → L) (party : Q → ℕ) (run : L → List (Entry Q A) → Type 0) (stands : V → List (Entry Q A) → Type 0) (law : L) (n : ℕ) where
+  abbrev P : Type 0
+  P = Pass L Q A
+
+  abbrev W : Type 0
+  W = View L Q A
+
+  abbrev St : Type 0
+  St = State (Option V) W
+
+  abbrev M : Type 0
+  M = Me (Option V) W
+
+  abbrev Homes : Type 0
+  Homes = List (maybe.Option (Option V))
+
+  abbrev Rule : St → Type 0
+  Rule = Ruled law_of party run stands law n
+
+  gives_from : (slots id : ℕ) (p : P) (t : ℕ) (x : Option V) (y : V) → x ≡ Some y → stands y p.seen → law_of y ≡ p.law
+      → Allows Rule slots id (seated p (Counted t), (0, x) ∷ []) 2 (λ z. z) (gave (step slots 2 0 0 none) (seated p (Counted t), (0, x) ∷ []))
+  gives_from slots id p t x y here stood law_is s r _ at _ = let v : W = seated p (Counted t) in
+      let k = stage_is law_of party run stands law n s r id v (Counted t) at refl in let known = knows law_of party run stands law n s r id p.number v at refl in let his : r.holder r.served ≡ id = ap r.holder (sym k.0) ∙ k.2 in
+      let w : W = seated p (Home t) in (
+        w,
+        gives,
+        tt,
+        restage law_of party run stands law n s r id p.number v (Home t) p.seen r.served r.drawn r.holder (set s.words 2 (get_or s.words 2 0)) (set s.homes 0 (some x)) at refl known.seen known.mine_seen (λ z. z)
+            (length-set s.words 2 _ ∙ r.wide) (same_words law_of party run stands law n s.words 2 1 ∙ r.ticket_is) (same_words law_of party run stands law n s.words 2 2 ∙ r.serving_is) (same_words law_of party run stands law n s.words 2 3 ∙ r.count_is)
+            (omega arith) (λ j d other e. (r.each j d e).1) (k.0, k.1, k.2)
+            (inl (
+              y,
+              ap (λ (hs : Homes). set hs 0 (some x)) (not_home law_of party run stands law n s r id v at refl) ∙ ap (λ (z : Option V). some z ∷ []) here,
+              subst (stands y) k.3 stood,
+              law_is ∙ (let q : law ∷ [] ≡ p.law ∷ [] = sym known.law_is in cc),
+              each_set (λ (j : ℕ) (d : W). is_out d.stage ≡ false) s.views id w refl (alone law_of party run stands law n s r id his),
+            )),
+        λ p' t' x' e'. let same : t ≡ t' = (let q : Counted t ≡ Counted t' = ap (λ (z : M). z.0.stage) e' in cc) in
+            ap (λ (z : M). let a : W = record z.0 { stage = Home t } in let c : List (ℕ × Option V) = [] in (a, c)) e' ∙ ap (λ (z : ℕ). let a : W = seated p' (Home z) in let c : List (ℕ × Option V) = [] in (a, c)) same,
+      )
+
+  pub gives_back : (slots id : ℕ) (me : M) (p : P) (t : ℕ) (x : Option V) (y : V) → me ≡ (seated p (Counted t), (0, x) ∷ []) → x ≡ Some y → stands y p.seen → law_of y ≡ p.law
+      → Allows Rule slots id me 2 (λ z. z) (gave (step slots 2 0 0 none) me)
+  gives_back slots id me p t x y e here stood law_is = subst (λ (m : M). Allows Rule slots id m 2 (λ z. z) (gave (step slots 2 0 0 none) m)) (sym e) (gives_from slots id p t x y here stood law_is)

@@ -1,0 +1,17 @@
+pub mod Members
+pub mod Owners
+pub mod Stays
+pub mod Owned
+pub mod Keeps
+pub mod Ticket
+pub mod Watch
+pub mod Take
+pub mod Count
+pub mod Give
+pub mod Next
+pub mod Split
+pub mod Join
+pub mod Start
+pub mod Close
+pub mod Seats
+pub mod SumLists

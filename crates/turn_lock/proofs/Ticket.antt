@@ -1,0 +1,59 @@
+-- A ticket is drawn.
+use Rattle.std.proofs.Common.{◌≡◌, ◌≢◌, ◌⊎◌, ℕ, zero, suc, ◌+◌, ◌-◌, ◌%◌, ◌^◌, ◌<◌, ◌≤◌, Bool, true, false, List, [], ◌∷◌, ◌++◌, length, map, get_or, set, sym, refl, ap, ◌∙◌, subst, ⊎_elim, inl, inr, arith, Option, Some, None, length-set, get_or-set_other, get_or-set_same, length-append, append-nil, append_assoc, eqb, ne_eqb, eq-eqb, cond, All}
+use mathlib.Core.Logic.{dite}
+use mathlib.Core.Option.{none, some, some-injective, some-ne-none}
+use mathlib.Core.Option as maybe
+use native.Mathlib.Decide.{ℕ_discrete, dec_le}
+use lib.ListN.{get_elem?}
+use Rattle.atomic_table.specs.Table.{State, Me, step, keeps, takes, gives, Allows, Splits, Joins, opening, Final, Seen}
+use Rattle.atomic_table.proofs.Lists.{at_map, at_set, set_else, at_last, at_longer, one_turn}
+use Rattle.turn_lock.specs.declared.kept.Entry.{Entry}
+use Rattle.turn_lock.specs.declared.view.Role.{Role}
+use Rattle.turn_lock.specs.declared.view.Role.TheVariants.{Maker, Party, Spent}
+use Rattle.turn_lock.specs.declared.view.Stage.{Stage}
+use Rattle.turn_lock.specs.declared.view.Stage.TheVariants.{Idle, Waiting, Turn, Out, Counted, Home}
+use Rattle.turn_lock.specs.declared.view.Joined.{Joined}
+use Rattle.turn_lock.specs.declared.view.View.{View}
+use Rattle.turn_lock.specs.Entries.{IsPrefix, own}
+use Rattle.turn_lock.specs.Passes.{Pass, Closes}
+use Rattle.turn_lock.specs.Rule.{total, has_ticket, is_out, weigh, weight, tickets_in, made_of, number_of, Stays, Standing, Making, Fits, HasNumber, HasSeen, IsLongest, IsIn, IsOut, Ruled}
+use Rattle.turn_lock.specs.Steps.{maker, spent, dealt, newcomer, joined_of, both, seated, shown, longer, StandsFor, IsGathered, took, drew, watched, counted, gave, passed}
+use Rattle.turn_lock.proofs.Owners.{put, put_here, put_else, moved, moved_here, moved_else}
+use Rattle.turn_lock.proofs.Stays.{stays_drawn, stays_passed, stays_longer, out_has}
+use Rattle.turn_lock.proofs.Keeps.{kept_set, longest_set, restage, knows, stage_is, value_set, value_stays, alone, is_in, not_home, same_words, few_tickets, reload}
+
+module _ {V L Q A : Type 0} (law_of : V → L) (party : Q → ℕ) (run : L → List (Entry Q A) → Type 0) (stands : V → List (Entry Q A) → Type 0) (law : L) (n : ℕ) where
+  abbrev P : Type 0
+  P = Pass L Q A
+
+  abbrev W : Type 0
+  W = View L Q A
+
+  abbrev St : Type 0
+  St = State (Option V) W
+
+  abbrev M : Type 0
+  M = Me (Option V) W
+
+  abbrev Homes : Type 0
+  Homes = List (maybe.Option (Option V))
+
+  abbrev Rule : St → Type 0
+  Rule = Ruled law_of party run stands law n
+
+  pub draws : (slots id : ℕ) (me : M) (p : P) → me ≡ (seated p Idle, []) → Allows Rule slots id me 1 (λ x. (x + 1) % 2 ^ 64) (drew (step slots 1 1 0 none) me)
+  draws slots id me p e s r _ at _ = let is : me.0.role ≡ Party p.number = ap (λ (x : M). x.0.role) e in let staged : me.0.stage ≡ Idle = ap (λ (x : M). x.0.stage) e in let known = knows law_of party run stands law n s r id p.number me.0 at is in let wide = r.wide in (
+    record me.0 { stage = Waiting r.drawn },
+    keeps,
+    tt,
+    restage law_of party run stands law n s r id p.number me.0 (Waiting r.drawn) me.0.seen r.served (r.drawn + 1) (put r.holder r.drawn id) (set s.words 1 ((get_or s.words 1 0 + 1) % 2 ^ 64)) s.homes at is known.seen known.mine_seen (λ z. z)
+        (length-set s.words 1 _ ∙ r.wide)
+        (get_or-set_same s.words 1 ((get_or s.words 1 0 + 1) % 2 ^ 64) 0 (omega arith) ∙ (let t = r.ticket_is in omega arith))
+        (get_or-set_other s.words 1 2 _ 0 (λ z. omega arith) ∙ r.serving_is)
+        (get_or-set_other s.words 1 3 _ 0 (λ z. omega arith) ∙ r.count_is)
+        (let h : has_ticket me.0.stage ≡ 0 = ap has_ticket staged in omega arith)
+        (λ j d other there. stays_drawn r.history r.served r.drawn r.holder id j d.seen d.stage (r.each j d there).1)
+        (let t = r.tickets in omega arith, omega arith, put_here r.holder r.drawn id)
+        (value_stays law_of party run stands law n s r id me.0 _ at (ap is_out staged) refl),
+    λ p' e'. (r.drawn, r.ticket_is, ap (λ (z : M). let w : W = record z.0 { stage = Waiting r.drawn } in (w, z.1)) e'),
+  )

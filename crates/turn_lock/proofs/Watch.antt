@@ -1,0 +1,59 @@
+-- The serving word is loaded.
+use Rattle.std.proofs.Common.{◌≡◌, ◌≢◌, ◌⊎◌, ℕ, zero, suc, ◌+◌, ◌-◌, ◌%◌, ◌^◌, ◌<◌, ◌≤◌, Bool, true, false, List, [], ◌∷◌, ◌++◌, length, map, get_or, set, sym, refl, ap, ◌∙◌, subst, ⊎_elim, inl, inr, arith, Option, Some, None, length-set, get_or-set_other, get_or-set_same, length-append, append-nil, append_assoc, eqb, ne_eqb, eq-eqb, cond, All}
+use mathlib.Core.Logic.{dite}
+use mathlib.Core.Option.{none, some, some-injective, some-ne-none}
+use mathlib.Core.Option as maybe
+use native.Mathlib.Decide.{ℕ_discrete, dec_le}
+use lib.ListN.{get_elem?}
+use Rattle.atomic_table.specs.Table.{State, Me, step, keeps, takes, gives, Allows, Splits, Joins, opening, Final, Seen}
+use Rattle.atomic_table.proofs.Lists.{at_map, at_set, set_else, at_last, at_longer, one_turn}
+use Rattle.turn_lock.specs.declared.kept.Entry.{Entry}
+use Rattle.turn_lock.specs.declared.view.Role.{Role}
+use Rattle.turn_lock.specs.declared.view.Role.TheVariants.{Maker, Party, Spent}
+use Rattle.turn_lock.specs.declared.view.Stage.{Stage}
+use Rattle.turn_lock.specs.declared.view.Stage.TheVariants.{Idle, Waiting, Turn, Out, Counted, Home}
+use Rattle.turn_lock.specs.declared.view.Joined.{Joined}
+use Rattle.turn_lock.specs.declared.view.View.{View}
+use Rattle.turn_lock.specs.Entries.{IsPrefix, own}
+use Rattle.turn_lock.specs.Passes.{Pass, Closes}
+use Rattle.turn_lock.specs.Rule.{total, has_ticket, is_out, weigh, weight, tickets_in, made_of, number_of, Stays, Standing, Making, Fits, HasNumber, HasSeen, IsLongest, IsIn, IsOut, Ruled}
+use Rattle.turn_lock.specs.Steps.{maker, spent, dealt, newcomer, joined_of, both, seated, shown, longer, StandsFor, IsGathered, took, drew, watched, counted, gave, passed}
+use Rattle.turn_lock.proofs.Keeps.{kept_set, longest_set, restage, knows, stage_is, value_set, value_stays, alone, is_in, not_home, same_words, few_tickets, reload}
+
+module _ {V L Q A : Type 0} (law_of : V → L) (party : Q → ℕ) (run : L → List (Entry Q A) → Type 0) (stands : V → List (Entry Q A) → Type 0) (law : L) (n : ℕ) where
+  abbrev P : Type 0
+  P = Pass L Q A
+
+  abbrev W : Type 0
+  W = View L Q A
+
+  abbrev St : Type 0
+  St = State (Option V) W
+
+  abbrev M : Type 0
+  M = Me (Option V) W
+
+  abbrev Homes : Type 0
+  Homes = List (maybe.Option (Option V))
+
+  abbrev Rule : St → Type 0
+  Rule = Ruled law_of party run stands law n
+
+  pub watches : (slots id : ℕ) (me : M) (p : P) (t : ℕ) → n ≤ 256 → me ≡ (seated p (Waiting t), []) → Allows Rule slots id me 2 (λ x. x) (watched (step slots 2 0 0 none) me)
+  watches slots id me p t small e s r _ at _ = let is : me.0.role ≡ Party p.number = ap (λ (x : M). x.0.role) e in let waits : me.0.stage ≡ Waiting t = ap (λ (x : M). x.0.stage) e in let k = stage_is law_of party run stands law n s r id me.0 (Waiting t) at waits in let few = few_tickets law_of party run stands law n s r in let drawn = r.tickets in
+      let same : (p' : P) (t' : ℕ) → me ≡ (seated p' (Waiting t'), []) → t ≡ t' = λ p' t' e'. (let q : Waiting t ≡ Waiting t' = sym waits ∙ ap (λ (x : M). x.0.stage) e' in cc) in
+      dite (ℕ_discrete (get_or s.words 2 0) (t % 2 ^ 64))
+      (λ hit. let now : r.served ≡ t = one_turn r.served t (2 ^ 64) k.0 (omega arith) (sym r.serving_is ∙ hit) in (
+        record me.0 { stage = Turn t },
+        keeps,
+        tt,
+        reload law_of party run stands law n s r 2 id p.number me.0 (Turn t) at is (ap has_ticket waits) (ap is_out waits) refl (sym now, k.1, k.2),
+        λ p' t' e'. ((λ _. ap (λ (z : M). let w : W = record z.0 { stage = Turn t } in (w, z.1)) e' ∙ ap (λ (z : ℕ). let w : W = seated p' (Turn z) in let c : List (ℕ × Option V) = [] in (w, c)) (same p' t' e')), (λ miss. absurd (miss (hit ∙ ap (λ (z : ℕ). z % 2 ^ 64) (same p' t' e'))))),
+      ))
+      (λ miss. (
+        me.0,
+        keeps,
+        tt,
+        reload law_of party run stands law n s r 2 id p.number me.0 me.0.stage at is refl (ap is_out waits) (ap is_out waits) (r.each id me.0 at).1,
+        λ p' t' e'. ((λ hit. absurd (miss (hit ∙ ap (λ (z : ℕ). z % 2 ^ 64) (sym (same p' t' e'))))), (λ _. refl)),
+      ))

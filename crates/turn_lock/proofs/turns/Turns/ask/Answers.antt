@@ -1,0 +1,98 @@
+-- p is the pass before the call, h the list that the value stood for when it was taken, and es this call's entry
+use Rattle.std.proofs.Common.{List, [], ◌∷◌, ◌++◌, ap, ◌∙◌, sym, subst, length, ◌%◌, ◌^◌, ℕ}
+use Rattle.std.proofs.lemmas.List.{append_cancel_right}
+use Rattle.turn_lock.specs.declared.kept.Entry.{Entry}
+use Rattle.turn_lock.specs.Entries.{entry, own}
+use Rattle.turn_lock.specs.Steps.{shown, longer}
+use Rattle.turn_lock.proofs.Owned.{own_mine}
+use Rattle.turn_lock.proofs.Seats.{rests_as, rests}
+use Rattle.turn_lock.proofs.turns.Turns.ask.Goals as goal
+
+pub take-value-requires-clause-turn : goal.take-value-requires-clause-turn
+take-value-requires-clause-turn g c = let p = c.args.pass.now in let w = c.wait_turn.ensures.turn p (rests_as _ _ _ c.pass.invariant c.pass.view_is) in
+    (p, w.0, w.1)
+
+pub step-stepped-requires : goal.step-stepped-requires
+step-stepped-requires g c = let p = c.args.pass.now in let w = c.wait_turn.ensures.turn p (rests_as _ _ _ c.pass.invariant c.pass.view_is) in
+    let k = c.take-value.ensures.took p w.0 w.1 in let h = k.0 in
+    subst (λ (l : g.row.V-Law.Denot). g.V.Kept.fits l c.args.request.now) (sym k.2.2) c.requires.fits
+
+pub count-place-requires-clause-out : goal.count-place-requires-clause-out
+count-place-requires-clause-out g c = let p = c.args.pass.now in let w = c.wait_turn.ensures.turn p (rests_as _ _ _ c.pass.invariant c.pass.view_is) in
+    let k = c.take-value.ensures.took p w.0 w.1 in let h = k.0 in
+    let s = c.step-stepped.ensures in let before = subst (λ (l : g.row.V-Law.Denot). g.V.Kept.run l h) (sym k.2.2) k.2.1 in
+    let es = entry c.args.request.now c.step-stepped.result.used c.step-stepped.result.answer ∷ [] in
+    let ran = subst (λ (l : g.row.V-Law.Denot). g.V.Kept.run l (h ++ es)) k.2.2 (s.runs h k.2.0 before) in
+    (shown p h, w.0, k.1, ran, c.requires.party)
+
+pub give-requires-clause-counted : goal.give-requires-clause-counted
+give-requires-clause-counted g c = let p = c.args.pass.now in let w = c.wait_turn.ensures.turn p (rests_as _ _ _ c.pass.invariant c.pass.view_is) in
+    let k = c.take-value.ensures.took p w.0 w.1 in let h = k.0 in
+    let s = c.step-stepped.ensures in let before = subst (λ (l : g.row.V-Law.Denot). g.V.Kept.run l h) (sym k.2.2) k.2.1 in
+    let es = entry c.args.request.now c.step-stepped.result.used c.step-stepped.result.answer ∷ [] in
+    let n = c.count-place.ensures.counted (shown p h) w.0 k.1 in
+    (longer (shown p h) es, w.0, n.0, s.stands h k.2.0 before, s.law ∙ k.2.2)
+
+pub invariant_of-pass : goal.invariant_of-pass
+invariant_of-pass g c = let p = c.args.pass.now in let w = c.wait_turn.ensures.turn p (rests_as _ _ _ c.pass.invariant c.pass.view_is) in
+    let k = c.take-value.ensures.took p w.0 w.1 in let h = k.0 in
+    let es = entry c.args.request.now c.step-stepped.result.used c.step-stepped.result.answer ∷ [] in
+    let n = c.count-place.ensures.counted (shown p h) w.0 k.1 in
+    let law_is = ap (λ z. z.law) c.pass.view_is in let number_is = ap (λ z. z.number) c.pass.view_is in
+    rests p.lock _ _ _ (longer (shown p h) es) (c.give.ensures.idle (longer (shown p h) es) w.0 n.0) number_is law_is
+
+pub returns-clause-seen : goal.returns-clause-seen
+returns-clause-seen g c = let p = c.args.pass.now in let w = c.wait_turn.ensures.turn p (rests_as _ _ _ c.pass.invariant c.pass.view_is) in
+    let k = c.take-value.ensures.took p w.0 w.1 in let h = k.0 in
+    let es = entry c.args.request.now c.step-stepped.result.used c.step-stepped.result.answer ∷ [] in
+    let n = c.count-place.ensures.counted (shown p h) w.0 k.1 in
+    let idle = c.give.ensures.idle (longer (shown p h) es) w.0 n.0 in let seen_is = ap (λ m. m.0.seen) idle in let mine_is = ap (λ m. m.0.mine) idle in
+    (k.2.3.0, seen_is ∙ ap (λ (z : List (Entry g.row.V-Request.Denot g.row.V-Answer.Denot)). z ++ es) k.2.3.1)
+
+pub returns-clause-runs : goal.returns-clause-runs
+returns-clause-runs g c = let p = c.args.pass.now in let w = c.wait_turn.ensures.turn p (rests_as _ _ _ c.pass.invariant c.pass.view_is) in
+    let k = c.take-value.ensures.took p w.0 w.1 in let h = k.0 in
+    let s = c.step-stepped.ensures in let before = subst (λ (l : g.row.V-Law.Denot). g.V.Kept.run l h) (sym k.2.2) k.2.1 in
+    let es = entry c.args.request.now c.step-stepped.result.used c.step-stepped.result.answer ∷ [] in
+    let ran = subst (λ (l : g.row.V-Law.Denot). g.V.Kept.run l (h ++ es)) k.2.2 (s.runs h k.2.0 before) in
+    let n = c.count-place.ensures.counted (shown p h) w.0 k.1 in
+    let idle = c.give.ensures.idle (longer (shown p h) es) w.0 n.0 in let seen_is = ap (λ m. m.0.seen) idle in let mine_is = ap (λ m. m.0.mine) idle in
+    let law_is = ap (λ z. z.law) c.pass.view_is in let number_is = ap (λ z. z.number) c.pass.view_is in
+    subst (λ (z : g.row.V-Law.Denot × List (Entry g.row.V-Request.Denot g.row.V-Answer.Denot)). g.V.Kept.run z.0 z.1) (λ i. (sym law_is i, sym seen_is i)) ran
+
+pub returns-clause-mine : goal.returns-clause-mine
+returns-clause-mine g c = let p = c.args.pass.now in let w = c.wait_turn.ensures.turn p (rests_as _ _ _ c.pass.invariant c.pass.view_is) in
+    let k = c.take-value.ensures.took p w.0 w.1 in let h = k.0 in
+    let es = entry c.args.request.now c.step-stepped.result.used c.step-stepped.result.answer ∷ [] in
+    let n = c.count-place.ensures.counted (shown p h) w.0 k.1 in
+    let idle = c.give.ensures.idle (longer (shown p h) es) w.0 n.0 in let seen_is = ap (λ m. m.0.seen) idle in let mine_is = ap (λ m. m.0.mine) idle in
+    mine_is
+
+pub returns-clause-own : goal.returns-clause-own
+returns-clause-own g c = let p = c.args.pass.now in let w = c.wait_turn.ensures.turn p (rests_as _ _ _ c.pass.invariant c.pass.view_is) in
+    let k = c.take-value.ensures.took p w.0 w.1 in let h = k.0 in
+    let es = entry c.args.request.now c.step-stepped.result.used c.step-stepped.result.answer ∷ [] in
+    let n = c.count-place.ensures.counted (shown p h) w.0 k.1 in
+    let idle = c.give.ensures.idle (longer (shown p h) es) w.0 n.0 in let seen_is = ap (λ m. m.0.seen) idle in let mine_is = ap (λ m. m.0.mine) idle in
+    let law_is = ap (λ z. z.law) c.pass.view_is in let number_is = ap (λ z. z.number) c.pass.view_is in
+    (λ i. own g.V.Kept.party (number_is i) (seen_is i)) ∙ (own_mine g.V.Kept.party p.number h _ c.requires.party ∙ (ap (λ (z : List (Entry g.row.V-Request.Denot g.row.V-Answer.Denot)). z ++ es) k.2.4 ∙ sym mine_is))
+
+pub returns-clause-moment : goal.returns-clause-moment
+returns-clause-moment g c front at = let p = c.args.pass.now in let w = c.wait_turn.ensures.turn p (rests_as _ _ _ c.pass.invariant c.pass.view_is) in
+    let k = c.take-value.ensures.took p w.0 w.1 in let h = k.0 in
+    let s = c.step-stepped.ensures in let before = subst (λ (l : g.row.V-Law.Denot). g.V.Kept.run l h) (sym k.2.2) k.2.1 in
+    let es = entry c.args.request.now c.step-stepped.result.used c.step-stepped.result.answer ∷ [] in
+    let n = c.count-place.ensures.counted (shown p h) w.0 k.1 in
+    let idle = c.give.ensures.idle (longer (shown p h) es) w.0 n.0 in let seen_is = ap (λ m. m.0.seen) idle in let mine_is = ap (λ m. m.0.mine) idle in
+    let law_is = ap (λ z. z.law) c.pass.view_is in let number_is = ap (λ z. z.number) c.pass.view_is in
+    let same = append_cancel_right h front es (sym seen_is ∙ at) in
+    s.moment h k.2.0 before ∙ (λ i. g.V.Kept.used ((k.2.2 ∙ sym law_is) i) (same i) c.args.moment)
+
+pub returns-clause-place : goal.returns-clause-place
+returns-clause-place g c front at = let p = c.args.pass.now in let w = c.wait_turn.ensures.turn p (rests_as _ _ _ c.pass.invariant c.pass.view_is) in
+    let k = c.take-value.ensures.took p w.0 w.1 in let h = k.0 in
+    let es = entry c.args.request.now c.step-stepped.result.used c.step-stepped.result.answer ∷ [] in
+    let n = c.count-place.ensures.counted (shown p h) w.0 k.1 in
+    let idle = c.give.ensures.idle (longer (shown p h) es) w.0 n.0 in let seen_is = ap (λ m. m.0.seen) idle in let mine_is = ap (λ m. m.0.mine) idle in
+    let same = append_cancel_right h front es (sym seen_is ∙ at) in
+    n.1 ∙ ap (λ (z : List (Entry g.row.V-Request.Denot g.row.V-Answer.Denot)). length z % 2 ^ 64) same

@@ -1,0 +1,35 @@
+-- What a lock and its passes are to whoever has them.
+use Rattle.std.specs.Prelude.{◌≡◌, ◌≢◌, ℕ, ◌%◌, ◌^◌, List, [], length, All}
+use Rattle.atomic_table.specs.Seated.{TableId}
+use Rattle.turn_lock.specs.declared.kept.Entry.{Entry}
+use Rattle.turn_lock.specs.Entries.{own, IsPrefix}
+
+-- `id` tells one lock from another, and the law is the value's
+pub record Lock (L : Type 0) : Type 0 where
+  pub id : TableId
+  pub parties : ℕ
+  pub law : L
+
+-- of which lock, for which party, under which law; the history as it was seen last, and the party's own part of it
+pub record Pass (L Q A : Type 0) : Type 0 where
+  pub lock : TableId
+  pub number : ℕ
+  pub law : L
+  pub seen : List (Entry Q A)
+  pub mine : List (Entry Q A)
+
+-- a pass that was never used
+abbrev pub unused : {L Q A : Type 0} → Lock L → ℕ → Pass L Q A
+unused k p = record { lock = k.id; number = p; law = k.law; seen = []; mine = [] }
+
+-- what is known of the value and of the count when a lock was closed with all its passes
+pub record Closes {V L Q A : Type 0} (party : Q → ℕ) (run : L → List (Entry Q A) → Type 0) (stands : V → List (Entry Q A) → Type 0)
+    (l : L) (passes : List (Pass L Q A)) (x : V) (count : ℕ) : Type 0 where
+  pub history : List (Entry Q A)
+  pub stood : stands x history
+  pub runs : run l history
+  pub count_is : count ≡ length history % 2 ^ 64
+  pub seen : All (λ p. IsPrefix p.seen history) passes
+  pub mine : All (λ p. own party p.number history ≡ p.mine) passes
+  -- it has no entries but those of the passes' parties
+  pub others : (q : ℕ) → All (λ p. p.number ≢ q) passes → own party q history ≡ []

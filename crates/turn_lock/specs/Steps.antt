@@ -1,0 +1,98 @@
+-- The views of a seat, and what each step tells.
+use Rattle.std.specs.Prelude.{◌≡◌, ◌≢◌, ℕ, ◌+◌, ◌%◌, ◌^◌, List, [], ◌∷◌, ◌++◌, map, length, Option, Some}
+use Rattle.atomic_table.specs.Seated.{TableId}
+use Rattle.atomic_table.specs.Table.{Me, Step}
+use Rattle.turn_lock.specs.declared.kept.Entry.{Entry}
+use Rattle.turn_lock.specs.declared.view.Role.{Role}
+use Rattle.turn_lock.specs.declared.view.Role.TheVariants.{Maker, Party, Spent}
+use Rattle.turn_lock.specs.declared.view.Stage.{Stage}
+use Rattle.turn_lock.specs.declared.view.Stage.TheVariants.{Idle, Waiting, Turn, Out, Counted, Home}
+use Rattle.turn_lock.specs.declared.view.Joined.{Joined}
+use Rattle.turn_lock.specs.declared.view.View.{View}
+use Rattle.turn_lock.specs.Entries.{own, IsPrefix}
+use Rattle.turn_lock.specs.Passes.{Pass}
+use Rattle.turn_lock.specs.Rule.{made_of, number_of}
+
+module _ {L Q A : Type 0} where
+  -- the maker's view, once so many passes were made
+  abbrev pub maker : L → ℕ → View L Q A
+  maker l m = record { law = l ∷ []; role = Maker m; stage = Idle; seen = []; mine = []; joined = [] }
+
+  abbrev pub spent : View L Q A
+  spent = record { law = []; role = Spent; stage = Idle; seen = []; mine = []; joined = [] }
+
+  -- a split leaves the maker with this
+  abbrev pub dealt : View L Q A → View L Q A
+  dealt v = record v { role = Maker (made_of v.role + 1) }
+
+  -- and the new seat with this
+  abbrev pub newcomer : View L Q A → View L Q A
+  newcomer v = record { law = v.law; role = Party (made_of v.role); stage = Idle; seen = []; mine = []; joined = [] }
+
+  abbrev pub joined_of : View L Q A → Joined Q A
+  joined_of w = record { number = number_of w.role; seen = w.seen; mine = w.mine }
+
+  -- a join keeps what the other had seen, and what was its own
+  abbrev pub both : View L Q A → View L Q A → View L Q A
+  both v w = record v { joined = joined_of w ∷ (w.joined ++ v.joined) }
+
+  -- the view of a pass at a stage of its turn
+  abbrev pub seated : Pass L Q A → Stage → View L Q A
+  seated p st = record { law = p.law ∷ []; role = Party p.number; stage = st; seen = p.seen; mine = p.mine; joined = [] }
+
+  -- the pass, once it has seen this history
+  abbrev pub shown : Pass L Q A → List (Entry Q A) → Pass L Q A
+  shown p h = record p { seen = h }
+
+  -- the pass, once these entries were counted as its own
+  abbrev pub longer : Pass L Q A → List (Entry Q A) → Pass L Q A
+  longer p es = record p { seen = p.seen ++ es; mine = p.mine ++ es }
+
+module _ {S L Q A : Type 0} where
+  -- the pass of an idle seat
+  abbrev pub pass_at : TableId → ℕ → L → Me S (View L Q A) → Pass L Q A
+  pass_at lock number law m = record { lock = lock; number = number; law = law; seen = m.0.seen; mine = m.0.mine }
+
+  -- the seat has no ticket, and nothing of the table is out with it
+  abbrev pub IsAtRest : Pass L Q A → Me S (View L Q A) → Type 0
+  IsAtRest p m = m ≡ (seated p Idle, [])
+
+  -- the passes were joined into the last of them
+  abbrev pub IsGathered : List (Pass L Q A) → Me S (View L Q A) → Type 0
+  IsGathered passes m = (first : Pass L Q A) × (done : List (Pass L Q A)) × (passes ≡ done ++ first ∷ [])
+      × (m ≡ (record (seated first Idle) { joined = map (λ p. joined_of (seated p Idle)) done }, []))
+
+  -- a ticket was drawn
+  abbrev pub drew : Step S → Me S (View L Q A) → ℕ → Me S (View L Q A) → Type 0
+  drew st m n m' = (p : Pass L Q A) → m ≡ (seated p Idle, [])
+      → (t : ℕ) × (n ≡ t % 2 ^ 64) × (m' ≡ (seated p (Waiting t), []))
+
+  -- the turn has come where the serving word is the ticket's
+  abbrev pub watched : Step S → Me S (View L Q A) → ℕ → Me S (View L Q A) → Type 0
+  watched st m n m' = (p : Pass L Q A) (t : ℕ) → m ≡ (seated p (Waiting t), [])
+      → (n ≡ t % 2 ^ 64 → m' ≡ (seated p (Turn t), [])) × (n ≢ t % 2 ^ 64 → m' ≡ m)
+
+  -- the entry was counted, and the number found is that of the entries before it
+  abbrev pub counted : List (Entry Q A) → Step S → Me S (View L Q A) → ℕ → Me S (View L Q A) → Type 0
+  counted es st m n m' = (p : Pass L Q A) (t : ℕ) (c : List (ℕ × S)) → m ≡ (seated p (Out t), c)
+      → (m' ≡ (seated (longer p es) (Counted t), c)) × (n ≡ length p.seen % 2 ^ 64)
+
+  -- the value is at home again
+  abbrev pub gave : Step S → Me S (View L Q A) → ℕ → Me S (View L Q A) → Type 0
+  gave st m n m' = (p : Pass L Q A) (t : ℕ) (x : S) → m ≡ (seated p (Counted t), (0, x) ∷ [])
+      → m' ≡ (seated p (Home t), [])
+
+  -- the turn was handed on
+  abbrev pub passed : Step S → Me S (View L Q A) → ℕ → Me S (View L Q A) → Type 0
+  passed st m n m' = (p : Pass L Q A) (t : ℕ) → m ≡ (seated p (Home t), [])
+      → m' ≡ (seated p Idle, [])
+
+module _ {V L Q A : Type 0} (law_of : V → L) (party : Q → ℕ) (run : L → List (Entry Q A) → Type 0) (stands : V → List (Entry Q A) → Type 0) where
+  -- the value x stands for h, a run that goes on from what the pass had seen
+  abbrev pub StandsFor : V → List (Entry Q A) → Pass L Q A → Type 0
+  StandsFor x h p = stands x h × run p.law h × (law_of x ≡ p.law) × IsPrefix p.seen h × (own party p.number h ≡ p.mine)
+
+  -- the value was taken, and for which list it stands is known
+  abbrev pub took : Step (Option V) → Me (Option V) (View L Q A) → ℕ → Me (Option V) (View L Q A) → Type 0
+  took st m n m' = (p : Pass L Q A) (t : ℕ) → m ≡ (seated p (Turn t), [])
+      → (x : V) × (h : List (Entry Q A)) × (m' ≡ (seated (shown p h) (Out t), (0, Some x) ∷ [])) × StandsFor x h p

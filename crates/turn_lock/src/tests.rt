@@ -1,0 +1,183 @@
+//! The lock round a sum, in one thread and in several.
+ghost use Rattle.std.specs.Prelude.{◌≡◌, All, vec_len};
+
+use crate::sum::{Addend, Sum};
+use crate::{Answered, Kept, Stepped, TurnPass, Turns};
+use std::sync::Wait;
+use std::test::Fail;
+use std::thread::{Threads, join, map_vec};
+
+// Asks a sum so often, with 1 each.
+fn ask_often<R: Wait>(
+    rt: &R,
+    lock: &Turns<Sum>,
+    mut pass: TurnPass<Sum>,
+    times: u32,
+) -> TurnPass<Sum>
+    requires { pass.lock ≡ lock.now.id }
+    ensures { result.lock ≡ pass.lock }
+{
+    for _ in 0..times {
+        let party = pass.number();
+        lock.ask(rt, &mut pass, &Addend { party, amount: 1 }, 0);
+    }
+    pass
+}
+
+#[test]
+fn answers_are_the_sums_before(rt: HostRuntime) -> Result<(), Fail> {
+    let made = Turns::make(rt.alloc(), Sum::new(), 1);
+    assert!(rt; made.is_ok());
+    let Ok((lock, mut passes)) = made else {
+        return Ok(());
+    };
+    let mut pass = passes.pop().unwrap();
+    let party = pass.number();
+    assert_eq!(rt; party, 0);
+    for (amount, answer, place) in [(5, 0, 0), (7, 5, 1)] {
+        let moment = 100 + place;
+        let told = lock.ask(&rt, &mut pass, &Addend { party, amount }, moment);
+        assert_eq!(rt;
+            (told.answer, told.place, told.used),
+            (answer, place, moment)
+        );
+    }
+    passes.push_reserved(pass);
+    let (sum, calls) = lock.close(passes);
+    assert_eq!(rt; (sum.total(), calls), (12, 2));
+    Ok(())
+}
+
+// Two threads ask so often each, and the lock is closed.
+fn both_ask<R: Threads + Wait + Sync>(
+    rt: &R,
+    lock: Turns<Sum>,
+    mut passes: Vec<TurnPass<Sum>>,
+    times: u32,
+) -> (u64, u64)
+    requires parties { lock.parties ≡ 2 }
+    requires count { vec_len passes ≡ 2 }
+    requires lock { All (λ p. p.lock ≡ lock.id) passes.items }
+{
+    let second = passes.pop().unwrap();
+    let first = passes.pop().unwrap();
+    let shared = &lock;
+    let (first, second) = join(
+        rt,
+        move || ask_often(rt, shared, first, times),
+        move || ask_often(rt, shared, second, times),
+    );
+    passes.push_reserved(first);
+    passes.push_reserved(second);
+    let (sum, calls) = lock.close(passes);
+    (sum.total(), calls)
+}
+
+#[test]
+fn two_threads_lose_no_call(rt: HostRuntime) -> Result<(), Fail> {
+    let made = Turns::make(rt.alloc(), Sum::new(), 2);
+    assert!(rt; made.is_ok());
+    let Ok((lock, passes)) = made else {
+        return Ok(());
+    };
+    let told = both_ask(&rt, lock, passes, 1000);
+    assert_eq!(rt; told, (2000, 2000));
+    Ok(())
+}
+
+// The places of so many calls with 1 each, in their order. A place that is not its call's answer is given as u64::MAX.
+fn places_of<R: Wait>(rt: &R, lock: &Turns<Sum>, mut pass: TurnPass<Sum>) -> [u64; 500]
+    requires { pass.lock ≡ lock.now.id }
+{
+    let mut places = [0; 500];
+    for place in &mut places {
+        let party = pass.number();
+        let told = lock.ask(rt, &mut pass, &Addend { party, amount: 1 }, 0);
+        *place = if told.answer == told.place {
+            told.place
+        } else {
+            u64::MAX
+        };
+    }
+    places
+}
+
+#[test]
+fn eight_threads_have_places_of_their_own(rt: HostRuntime) -> Result<(), Fail> {
+    let made = Turns::make(rt.alloc(), Sum::new(), 8);
+    assert!(rt; made.is_ok());
+    let Ok((lock, passes)) = made else {
+        return Ok(());
+    };
+    let shared = &lock;
+    let lists = map_vec(
+        &rt,
+        passes,
+        &|pass: TurnPass<Sum>| places_of(&rt, shared, pass),
+    )?;
+    let mut taken = [false; 4000];
+    for places in &lists {
+        assert!(rt; places.is_sorted());
+        for &place in places {
+            let at = place as usize;
+            assert!(rt; at < 4000 && !taken[at]);
+            taken[at] = true;
+        }
+    }
+    Ok(())
+}
+
+// A value that may not be dropped. Its party's number is the request.
+struct Sealed {
+    steps: u64,
+}
+
+impl Sealed {
+    fn open(self) -> u64 {
+        let Sealed { steps } = self;
+        steps
+    }
+}
+
+impl Kept for Sealed {
+    type Request = u32;
+
+    type Answer = ();
+
+    type Law = ();
+
+    ghost law = { λ _. tt };
+
+    ghost fits = { λ _ _. Unit {0} };
+
+    ghost party = { λ q. q };
+
+    ghost run = { λ _ _. Unit {0} };
+
+    ghost used = { λ _ _ m. m };
+
+    ghost stands = { λ _ _. Unit {0} };
+
+    fn step<R: Wait>(&mut self, _rt: &R, _request: &u32, moment: u64) -> Stepped<()> {
+        self.steps = self.steps.wrapping_add(1);
+        Stepped {
+            answer: (),
+            used: moment,
+        }
+    }
+}
+
+#[test]
+fn a_value_comes_back_that_may_not_be_dropped(rt: HostRuntime) {
+    match Turns::make(rt.alloc(), Sealed { steps: 0 }, 1) {
+        Ok((lock, mut passes)) => {
+            let mut pass = passes.pop().unwrap();
+            let Answered { used, .. } = lock.ask(&rt, &mut pass, &0, 9);
+            assert_eq!(rt; used, 9);
+            passes.push_reserved(pass);
+            let (value, calls) = lock.close(passes);
+            assert_eq!(rt; (value.open(), calls), (1, 1));
+        }
+        Err((_, value)) => assert_eq!(rt; value.open(), 0),
+    }
+}

@@ -1,0 +1,323 @@
+//! The lock and its passes.
+ghost use Rattle.std.specs.Prelude.{◌≡◌, ℕ, ◌%◌, ◌^◌, ◌<◌, ◌≤◌, List, [], ◌∷◌, ◌++◌, length, Some, None, IfOk, IfErr, EachIndex, vec_len, vec_capacity, All, slice_get};
+ghost use Rattle.turn_lock.specs.declared.kept.Entry.{Entry};
+ghost use Rattle.turn_lock.specs.declared.view.Stage.TheVariants.{Idle, Turn, Out, Counted};
+ghost use Rattle.turn_lock.specs.Entries.{entry, own};
+ghost use Rattle.turn_lock.specs.Passes.{Pass, Closes, unused};
+ghost use Rattle.turn_lock.specs.Steps.{maker, seated, shown, longer, StandsFor, IsAtRest, IsGathered};
+
+use crate::kept::{Kept, Stepped};
+use crate::table::{
+    CALLS, Count, Deal, Draw, Gather, Give, InTurn, LockSeat, LockTable, Next, Opening, SERVING,
+    Saying, TICKET, Take, VALUE, Watch,
+};
+use atomic_table::{Refused, Table};
+use std::alloc::Global;
+use std::marker::{Brand, Model};
+use std::snapshot::Snapshot;
+use std::sync::Wait;
+use std::thread;
+
+/// There was no memory.
+#[derive(Debug, Drop)]
+pub struct NoMemory;
+
+/// What a call through the lock gives.
+#[derive(Debug, Drop)]
+pub struct Answered<A> {
+    /// The value's answer.
+    pub answer: A,
+    /// How many calls came before this one, modulo 2^64.
+    pub place: u64,
+    /// The moment that the step used.
+    pub used: u64,
+}
+
+/// A value behind a ticket lock, which threads share by reference.
+///
+/// Contracts see it as a `Lock`: its `id` tells it from other locks, `parties` is the number of its passes, from 1 to 256, and `law` is the value's law.
+#[derive(Drop)]
+pub struct Turns<V: Kept> {
+    table: LockTable<V>,
+    parties: u32,
+}
+
+impl<V: Kept> Model for Turns<V> {
+    ghost use Rattle.std.specs.Prelude.{◌≡◌, ◌≤◌};
+    ghost use Rattle.turn_lock.specs.Passes.{Lock};
+
+    ghost Value = { Lock V.Law };
+
+    ghost view = { λ t. record { id = t.table.shared.table_id; parties = t.parties; law = V.law t.table.shared.key.value.value } };
+
+    ghost invariant = { λ t. (t.table.shared.table_id.words ≡ 4) × (t.table.shared.table_id.slots ≡ 1) × (t.table.shared.key.parties ≡ t.parties) × (1 ≤ t.parties) × (t.parties ≤ 256) };
+}
+
+/// What a party asks with, of one lock. One thread at a time has it.
+///
+/// Contracts see it as a `Pass`: `lock` is the `id` of its lock, `number` is its party, `law` is the value's law, `seen` is the history up to its last call and `mine` is its party's part of that.
+#[derive(Drop)]
+pub struct TurnPass<V: Kept> {
+    number: u32,
+    opening: Snapshot<Opening<V>>,
+    seat: LockSeat<V>,
+}
+
+impl<V: Kept> Model for TurnPass<V> {
+    ghost use Rattle.turn_lock.specs.Passes.{Pass};
+    ghost use Rattle.turn_lock.specs.Steps.{pass_at, IsAtRest};
+
+    ghost Value = { Pass V.Law V.Request V.Answer };
+
+    ghost view = { λ p. pass_at p.seat.table_id p.number (V.law p.opening.value.value.value) p.seat.me };
+
+    ghost invariant = { λ p. IsAtRest (pass_at p.seat.table_id p.number (V.law p.opening.value.value.value) p.seat.me) p.seat.me };
+}
+
+impl<V: Kept> TurnPass<V> {
+    /// The number of the party: pass i of [`Turns::make`] has the number i.
+    pub fn number(&self) -> u32
+        ensures { result ≡ self.now.number }
+    {
+        self.number
+    }
+}
+
+impl<V: Kept> Turns<V> {
+    /// Puts a value behind a new lock, and gives the passes of the parties 0 to `n` - 1, in order.
+    ///
+    /// `n` is from 1 to 256. The value has to stand for the empty list, and that list has to be a run of its law.
+    ///
+    /// # Errors
+    ///
+    /// Where there is no memory, the value comes back as it was.
+    pub fn make(
+        alloc: Global,
+        value: V,
+        n: u32,
+    ) -> Result<(Turns<V>, Vec<TurnPass<V>>), (NoMemory, V)>
+        requires count { (1 ≤ n) × (n ≤ 256) }
+        requires opens { V.stands value [] × V.run (V.law value) [] }
+        ensures lock { IfOk result (λ r. (r.0.parties ≡ n) × (r.0.law ≡ V.law value)) }
+        ensures count { IfOk result (λ r. vec_len r.1 ≡ n) }
+        ensures passes { IfOk result (λ r. EachIndex r.1.items (λ i. slice_get r.1.items i ≡ Some (unused r.0 i))) }
+        ensures refused { IfErr result (λ e. e.1 ≡ value) }
+    {
+        let Ok(mut passes) = Vec::with_capacity(alloc, n as usize) else {
+            return Err((NoMemory, value));
+        };
+        let Ok(mut slots) = Vec::with_capacity(alloc, 1) else {
+            return Err((NoMemory, value));
+        };
+        let opening = Opening {
+            value: Snapshot::of(&value),
+            parties: n,
+        };
+        slots.push_reserved(Some(value));
+        match Table::new(alloc, &[0, 0, 0, 0], slots, &opening) {
+            Ok((table, mut seat)) => {
+                let turns = Turns { table, parties: n };
+                turns.deal(&mut seat, &mut passes, &opening);
+                Ok((turns, passes))
+            }
+            Err(Refused { slots }) => Err((NoMemory, sole(slots))),
+        }
+    }
+
+    /// Makes one call of the value, in the caller's turn.
+    ///
+    /// It draws a ticket and waits until that is served, which may be forever. `moment` is handed on to the value's step. It takes no memory, but what that step takes.
+    pub fn ask<R: Wait>(
+        &self,
+        rt: &R,
+        pass: &mut TurnPass<V>,
+        request: &V::Request,
+        moment: u64,
+    ) -> Answered<V::Answer>
+        requires lock { pass.old.lock ≡ self.now.id }
+        requires fits { V.fits pass.old.law request.now }
+        requires party { V.party request.now ≡ pass.old.number }
+
+        // It stays a pass of this lock, for this party and under this law.
+        ensures same { (pass.new.lock ≡ pass.old.lock) × (pass.new.number ≡ pass.old.number) × (pass.new.law ≡ pass.old.law) }
+
+        // The history as it is seen now begins with what was seen before, and ends with this call's entry.
+        ensures seen { (between : List (Entry V.Request V.Answer))
+            × (pass.new.seen ≡ (pass.old.seen ++ between) ++ entry request.now result.used result.answer ∷ []) }
+        ensures runs { V.run pass.new.law pass.new.seen }
+
+        // This entry is one more of the party's own, which are its part of that history.
+        ensures mine { pass.new.mine ≡ pass.old.mine ++ entry request.now result.used result.answer ∷ [] }
+        ensures own { own V.party pass.new.number pass.new.seen ≡ pass.new.mine }
+
+        // The moment and the place go by the entries before this one.
+        ensures moment { (before : List (Entry V.Request V.Answer))
+            → pass.new.seen ≡ before ++ entry request.now result.used result.answer ∷ [] → result.used ≡ V.used pass.new.law before moment }
+        ensures place { (before : List (Entry V.Request V.Answer))
+            → pass.new.seen ≡ before ++ entry request.now result.used result.answer ∷ [] → result.place ≡ length before % 2 ^ 64 }
+    {
+        let seat = &mut pass.seat;
+        self.wait_turn(rt, seat);
+        let mut value = self.take(seat);
+        let stepped = value.step(rt, request, moment);
+        let place = self.count::<Brand>(seat, request, &stepped);
+        self.give(seat, value);
+        let Stepped { answer, used } = stepped;
+        Answered {
+            answer,
+            place,
+            used,
+        }
+    }
+
+    /// Takes all passes of the lock in, and gives the value back, with the number of all calls modulo 2^64.
+    ///
+    /// It takes no memory and waits for nobody. The value stands for the whole history, of which each pass has seen a beginning and has its party's part, and which has no entries but theirs.
+    pub fn close(self, passes: Vec<TurnPass<V>>) -> (V, u64)
+        requires count { vec_len passes ≡ self.parties }
+        requires lock { All (λ p. p.lock ≡ self.id) passes.items }
+        ensures law { V.law result.0 ≡ self.law }
+        ensures history { Closes V.party V.run V.stands self.law passes.items result.0 result.1 }
+    {
+        let seat = self.gather(passes);
+        let Turns { table, parties: _ } = self;
+        let mut closed = table.close_with(seat);
+        let calls = closed.word(CALLS);
+        let slot = closed.take(VALUE);
+        closed.free();
+        let Some(value) = slot else { unreachable!() };
+        (value, calls)
+    }
+
+    // Deals the passes, whose room is there.
+    fn deal(&self, seat: &mut LockSeat<V>, passes: &mut Vec<TurnPass<V>>, opening: &Opening<V>)
+        requires lock { seat.old.table_id ≡ self.now.id }
+        requires opens { seat.old.me ≡ (maker self.now.law 0, []) }
+        requires opening { (opening.now.parties ≡ self.now.parties) × (V.law opening.now.value.value ≡ self.now.law) }
+        requires room { (passes.old.items ≡ []) × (self.now.parties ≤ vec_capacity passes.old) }
+        ensures count { vec_len passes.new ≡ self.now.parties }
+        ensures dealt { EachIndex passes.new.items (λ i. slice_get passes.new.items i ≡ Some (unused self.now i)) }
+    {
+        for number in 0..self.parties {
+            let other = self.table.shared.split_seat::<Deal>(seat);
+            passes.push_reserved(TurnPass {
+                number,
+                opening: Snapshot::of(opening),
+                seat: other,
+            });
+        }
+    }
+
+    // Draws a ticket, and waits until it is served.
+    fn wait_turn<R: Wait>(&self, rt: &R, seat: &mut LockSeat<V>)
+        requires lock { seat.old.table_id ≡ self.now.id }
+        requires idle { (p : Pass V.Law V.Request V.Answer) × IsAtRest p seat.old.me }
+        ensures lock { seat.new.table_id ≡ seat.old.table_id }
+        ensures turn { (p : Pass V.Law V.Request V.Answer) → IsAtRest p seat.old.me
+            → (t : ℕ) × (seat.new.me ≡ (seated p (Turn t), [])) }
+    {
+        let ticket = self.table.shared.fetch_add::<Draw>(seat, TICKET, 1);
+        for _ in rt.forever() {
+            let serving = self.table.shared.load::<Watch>(seat, SERVING);
+            if serving == ticket {
+                return;
+            }
+            thread::yield_now();
+        }
+        unreachable!()
+    }
+
+    // Takes the value out, in the seat's turn.
+    fn take(&self, seat: &mut LockSeat<V>) -> V
+        requires lock { seat.old.table_id ≡ self.now.id }
+        requires turn { (p : Pass V.Law V.Request V.Answer) × (t : ℕ) × (seat.old.me ≡ (seated p (Turn t), [])) }
+        ensures lock { seat.new.table_id ≡ seat.old.table_id }
+        ensures took { (p : Pass V.Law V.Request V.Answer) (t : ℕ) → seat.old.me ≡ (seated p (Turn t), [])
+            → (h : List (Entry V.Request V.Answer)) × (seat.new.me ≡ (seated (shown p h) (Out t), (0, None) ∷ [])) × StandsFor V.law V.party V.run V.stands result h p }
+    {
+        self.table.shared.load::<Take<V>>(seat, SERVING);
+        let Some(value) = self.table.shared.exchange(seat, VALUE, None) else {
+            unreachable!()
+        };
+        value
+    }
+
+    // Counts the entry of a step, and gives the number of those before it.
+    fn count<J: Saying<V::Request, V::Answer>>(
+        &self,
+        seat: &mut LockSeat<V>,
+        request: &V::Request,
+        stepped: &Stepped<V::Answer>,
+    ) -> u64
+        requires lock { seat.old.table_id ≡ self.now.id }
+        requires said { J.said ≡ entry request.now stepped.now.used stepped.now.answer ∷ [] }
+        requires out { (p : Pass V.Law V.Request V.Answer) × (t : ℕ) × (seat.old.me ≡ (seated p (Out t), (0, None) ∷ []))
+            × V.run p.law (p.seen ++ J.said) × (V.party request.now ≡ p.number) }
+        ensures lock { seat.new.table_id ≡ seat.old.table_id }
+        ensures counted { (p : Pass V.Law V.Request V.Answer) (t : ℕ) → seat.old.me ≡ (seated p (Out t), (0, None) ∷ [])
+            → (seat.new.me ≡ (seated (longer p J.said) (Counted t), (0, None) ∷ [])) × (result ≡ length p.seen % 2 ^ 64) }
+    {
+        self.table.shared.fetch_add::<Count<J>>(seat, CALLS, 1)
+    }
+
+    // Puts the value back, and serves the next ticket.
+    fn give(&self, seat: &mut LockSeat<V>, value: V)
+        requires lock { seat.old.table_id ≡ self.now.id }
+        requires counted { (p : Pass V.Law V.Request V.Answer) × (t : ℕ) × (seat.old.me ≡ (seated p (Counted t), (0, None) ∷ []))
+            × V.stands value p.seen × (V.law value ≡ p.law) }
+        ensures lock { seat.new.table_id ≡ seat.old.table_id }
+        ensures idle { (p : Pass V.Law V.Request V.Answer) (t : ℕ) → seat.old.me ≡ (seated p (Counted t), (0, None) ∷ [])
+            → IsAtRest p seat.new.me }
+    {
+        let before = self.table.shared.exchange(seat, VALUE, Some(value));
+        let None = before else { unreachable!() };
+        self.table.shared.load::<Give>(seat, SERVING);
+        self.table.shared.fetch_add::<Next>(seat, SERVING, 1);
+    }
+
+    // Joins all passes into one.
+    fn gather(&self, mut passes: Vec<TurnPass<V>>) -> LockSeat<V>
+        requires some { 0 < vec_len passes }
+        requires lock { All (λ p. p.lock ≡ self.now.id) passes.items }
+        ensures lock { result.table_id ≡ self.now.id }
+        ensures all { IsGathered passes.items result.me }
+    {
+        let Some(first) = passes.pop() else {
+            unreachable!()
+        };
+        let mut seat = first.into_seat();
+        while let Some(pass) = passes.pop() {
+            self.table
+                .shared
+                .join_seat::<Gather>(&mut seat, pass.into_seat());
+        }
+        seat
+    }
+}
+
+impl<V: Kept> TurnPass<V> {
+    fn into_seat(self) -> LockSeat<V>
+        ensures lock { result.table_id ≡ self.lock }
+        ensures idle { IsAtRest self result.me }
+    {
+        let TurnPass {
+            number: _,
+            opening: _,
+            seat,
+        } = self;
+        seat
+    }
+}
+
+// What the one slot holds.
+fn sole<V>(mut slots: Vec<Option<V>>) -> V
+    requires { (x : V) × (slots.items ≡ Some x ∷ []) }
+    ensures { slots.items ≡ Some result ∷ [] }
+{
+    let last = slots.pop();
+    slots.destroy_empty();
+    let Some(Some(value)) = last else {
+        unreachable!()
+    };
+    value
+}

@@ -1,0 +1,49 @@
+//! What a seat at the lock's table knows. No value of these types is made.
+use crate::kept::Entry;
+use std::collections::LinkedList;
+
+/// Whose view it is.
+pub enum Role {
+    /// The one that deals the passes, with the number of those that were dealt.
+    Maker(u64),
+    /// A pass, with its number.
+    Party(u64),
+    /// None any more: it was joined into another.
+    Spent,
+}
+
+/// How far a seat has come in its turn. The number is its ticket, which is not cut to the width of a word.
+pub enum Stage {
+    /// It has no ticket.
+    Idle,
+    /// Its ticket is not served yet.
+    Waiting(u64),
+    /// Its ticket is served, and the value is at home.
+    Turn(u64),
+    /// The value is out with it.
+    Out(u64),
+    /// Its entry was counted, and the value is still out.
+    Counted(u64),
+    /// The value is at home again.
+    Home(u64),
+}
+
+/// What was left of a view that was joined into another.
+pub struct Joined<Q, A> {
+    pub number: u64,
+    pub seen: LinkedList<Entry<Q, A>>,
+    pub mine: LinkedList<Entry<Q, A>>,
+}
+
+/// What one seat knows.
+pub struct View<L, Q, A> {
+    /// The law alone, or nothing in a spent view.
+    pub law: LinkedList<L>,
+    pub role: Role,
+    pub stage: Stage,
+    /// The history, as far as this seat has seen it.
+    pub seen: LinkedList<Entry<Q, A>>,
+    /// The party's own entries.
+    pub mine: LinkedList<Entry<Q, A>>,
+    pub joined: LinkedList<Joined<Q, A>>,
+}
