@@ -1,0 +1,11 @@
+use Rattle.std.proofs.Common.{rules, tests}
+use Rattle.std.proofs.lemmas.Iterator.Search.{all_from_yields_List}
+use Rattle.std.proofs.lemmas.Iterator.Splits.{YieldsList-from_slice_split}
+use Rattle.first_form.specs.Form.{is_plain_line}
+use Rattle.first_form.proofs.form.has_plain_lines.Goals as goal
+
+pub returns : goal.returns
+returns c =
+    all_from_yields_List is_plain_line _ _ _ c.all.ensures.ran
+    (YieldsList-from_slice_split _ _ c.args.file.now c.split.ensures.rest c.split.ensures.done c.split.ensures.closure (λ x b q k. search (rules, tests)))
+    (λ x b q k. search (rules, tests))

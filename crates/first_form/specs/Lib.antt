@@ -1,0 +1,5 @@
+pub mod Each
+pub mod Form
+pub mod Licence
+pub mod Options
+pub mod UserRules

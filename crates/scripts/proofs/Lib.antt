@@ -1,0 +1,4 @@
+pub mod Moments
+pub mod Plays
+pub mod Places
+pub mod Writes
