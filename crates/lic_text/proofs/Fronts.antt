@@ -2,11 +2,11 @@ use Rattle.std.proofs.Common.{◌≡◌, ℕ, ◌+◌, Bool, true, false, not, L
 use Rattle.std.proofs.lemmas.List.{append-nil}
 use Rattle.lic_text.specs.Physical.{is_empty, is_comment, is_continued, front_of}
 use Rattle.lic_text.specs.Lines.{Logical, logical_lines, fault_of, judged, tells, up_to_fault, words_of, lines_from}
-use Rattle.lic_text.specs.Front.{joined_text, has_no_end, line_count, lines_behind, front_line}
+use Rattle.lic_text.specs.Front.{joined_text, has_no_end, line_count, lines_behind}
 use Rattle.lic_text.specs.declared.fault.TextFault.{TextFault}
 
 -- a logical line of these parts
-abbrev line_of : ℕ → List ℕ → Bool → Logical
+abbrev pub line_of : ℕ → List ℕ → Bool → Logical
 line_of first text is_open = record { first = first; text = text; is_open = is_open }
 
 -- the lines of a text that goes on with an open line
@@ -35,6 +35,10 @@ pub open_line : (texts : List (List ℕ)) (first : ℕ) (before : List ℕ) (num
     logical_lines texts (Some (line_of first before true)) number ≡ behind first before number texts
 open_line [] first before number = ap (λ (text : List ℕ). line_of first text true ∷ []) (sym (append-nil before))
 open_line (text ∷ texts) first before number = open_step text texts first before number (is_continued text) refl (λ more next. open_line texts first more next)
+
+-- the logical line at the front of physical lines, the first of them no comment
+abbrev front_line : ℕ → List (List ℕ) → Logical
+front_line number texts = line_of number (joined_text texts) (has_no_end texts)
 
 -- a physical line that is no comment begins a logical line
 begins_line : (text : List ℕ) (texts : List (List ℕ)) (number : ℕ) → is_comment text ≡ false →

@@ -3,6 +3,7 @@ use Rattle.lic_text.specs.Physical.{is_comment, is_continued, front_of, physical
 use Rattle.lic_text.specs.Lines.{Logical, new_line, joined, with_line, ended, still_open, logical_lines, words_of, unless_fault, judged, tells, up_to_fault, lines_from, lines_of, Worded, number_at, RisesAbove}
 use Rattle.lic_text.specs.declared.fault.TextFault.{TextFault}
 use Rattle.lic_text.specs.declared.fault.TextFault.TheVariants.{LineTooLong, OpenContinuation}
+use Rattle.lic_text.proofs.Fronts.{line_of}
 use Rattle.lic_text.proofs.WordsOf.{of_either}
 
 -- the same of logical lines
@@ -25,9 +26,6 @@ begins_with (Some line) low number text h =
     let Q : Logical → Type 0 = λ line. (low < line.first) × (line.first < number + 1) in
     let later : line.first < number + 1 = omega (arith, h.1) in
     of_either Q (is_continued text) (record { first = line.first; text = line.text ++ (front_of text ++ 32 ∷ []); is_open = true }) (record { first = line.first; text = line.text ++ text; is_open = false }) (h.0, later) (h.0, later)
-
-abbrev line_of : ℕ → List ℕ → Bool → Logical
-line_of first text is_open = record { first = first; text = text; is_open = is_open }
 
 rise_some : (first : ℕ) (text : List ℕ) (is_open : Bool) (texts : List (List ℕ)) (low number : ℕ) → Begins low (Some (line_of first text is_open)) number →
     ((open_line : Option Logical) (from : ℕ) → Begins from open_line number → LinesRise from (logical_lines texts open_line number)) →

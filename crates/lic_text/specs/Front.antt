@@ -1,6 +1,5 @@
 use Rattle.std.specs.Prelude.{ℕ, ◌+◌, Bool, true, false, if◌then◌else◌, List, [], ◌∷◌, ◌++◌}
 use Rattle.lic_text.specs.Physical.{is_continued, front_of}
-use Rattle.lic_text.specs.Lines.{Logical}
 
 -- The logical line at the front of physical lines, none of them read as a comment.
 
@@ -23,7 +22,3 @@ line_count (text ∷ texts) = if is_continued text then 1 + line_count texts els
 abbrev pub lines_behind : List (List ℕ) → List (List ℕ)
 lines_behind [] = []
 lines_behind (text ∷ texts) = if is_continued text then lines_behind texts else texts
-
--- the logical line
-abbrev pub front_line : ℕ → List (List ℕ) → Logical
-front_line number texts = record { first = number; text = joined_text texts; is_open = has_no_end texts }

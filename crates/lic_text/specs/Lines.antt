@@ -56,6 +56,7 @@ abbrev pub fault_of : ℕ → ℕ → Bool → Option TextFault
 fault_of first size is_open =
     if nat_lt 8192 size then Some (LineTooLong first) else (if is_open then Some (OpenContinuation first) else None)
 
+-- the line, unless it has a fault
 abbrev pub unless_fault : Option TextFault → Worded → Result Worded TextFault
 unless_fault None line = Ok line
 unless_fault (Some fault) line = Err fault

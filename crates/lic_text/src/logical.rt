@@ -21,7 +21,8 @@ impl<'a> Lines<'a> {
     // Reads one comment or one logical line.
     fn step(&mut self) -> Option<Result<Line<'a>, TextFault>>
         requires { 0 < length self.old.rest.now }
-        ensures told { MatchOption result (lines_left self.old ≡ lines_left self.new) (λ told. lines_left self.old ≡ shown told ∷ lines_left self.new) }
+        ensures told { MatchOption result (lines_left self.old ≡ lines_left self.new)
+            (λ told. lines_left self.old ≡ shown told ∷ lines_left self.new) }
         ensures nearer { length self.new.rest.now < length self.old.rest.now }
     {
         let from = self.rest;

@@ -1,4 +1,4 @@
-ghost use Rattle.std.specs.Prelude.{◌≡◌, ◌<◌, ◌∷◌, [], length, MatchOption};
+ghost use Rattle.std.specs.Prelude.{◌≡◌, ◌<◌, [], length};
 ghost use Rattle.lic_text.specs.Physical.{physical_lines};
 ghost use Rattle.lic_text.specs.Lines.{words_of};
 ghost use Rattle.lic_text.specs.Front.{joined_text};
@@ -15,12 +15,13 @@ pub struct Words<'a> {
 }
 
 impl<'a> Words<'a> {
+    ghost use Rattle.std.specs.Iterator.{YieldsFirstBy};
     ghost use Rattle.lic_text.specs.Left.{words_left};
 
     // The next word of the physical line that is read.
     fn next_here(&mut self) -> Option<&'a [u8]>
         ensures further { self.new.further.now ≡ self.old.further.now }
-        ensures word { MatchOption result ((words_of self.old.text.now ≡ []) × (words_of self.new.text.now ≡ [])) (λ word. words_of self.old.text.now ≡ word.now ∷ words_of self.new.text.now) }
+        ensures word { YieldsFirstBy (λ word. word.now) words_of self.old.text.now result self.new.text.now }
     {
         let text = after_blanks(self.text);
         if text.is_empty() {
