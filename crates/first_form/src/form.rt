@@ -48,7 +48,8 @@ fn is_plain_line(text: &[u8]) -> bool
 fn has_plain_lines(file: &[u8]) -> bool
     ensures { result ≡ list_all is_plain_line (slice_split (λ b. b == 10) file.now) }
 {
-    file.split(|byte| *byte == b'\n').all(|line| is_plain_line(line))
+    file.split(|byte| *byte == b'\n')
+        .all(|line| is_plain_line(line))
 }
 
 fn has_plain_bytes(file: &[u8]) -> bool
@@ -71,8 +72,5 @@ fn ends_in_feed(file: &[u8]) -> bool
 pub fn is_in_first_form(file: &[u8]) -> bool
     ensures { result ≡ is_in_first_form file.now }
 {
-    file.len() <= FILE_LIMIT
-        && ends_in_feed(file)
-        && has_plain_bytes(file)
-        && has_plain_lines(file)
+    file.len() <= FILE_LIMIT && ends_in_feed(file) && has_plain_bytes(file) && has_plain_lines(file)
 }
