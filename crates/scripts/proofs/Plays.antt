@@ -29,7 +29,7 @@ after_line sets h line small =
 pub after_line_now : (sets : List Rules) (h : List Entry) (line : ScriptLine) → (after sets h).now < 2 ^ 40 → (after sets (h ++ entry_of sets h line ∷ [])).now < 2 ^ 40
 after_line_now sets h line small =
     let now : (after sets (h ++ entry_of sets h line ∷ [])).now ≡ moved (after sets h).now line.moment =
-        ap (λ (s : State). s.now) (after_line sets h line small) ∙ step_now sets (after sets h) (request_of line) line.moment in
+    ap (λ (s : State). s.now) (after_line sets h line small) ∙ step_now sets (after sets h) (request_of line) line.moment in
     rw now (moved_within (after sets h).now line.moment small)
 
 -- the entry's reply

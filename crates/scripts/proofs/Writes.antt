@@ -22,7 +22,7 @@ pub left_front : (old now new : Option (List ℕ)) (left piece more whole : List
 left_front old now new left piece more whole k f e =
     let text : whole ≡ k.done ++ (piece ++ more) = sym k.all ∙ ap (λ (l : List ℕ). k.done ++ l) e in
     let front : take (length k.done + f.0) whole ≡ k.done ++ take f.0 piece =
-        ap (take (length k.done + f.0)) text ∙ (take-append-add k.done (piece ++ more) f.0 ∙ ap (λ (l : List ℕ). k.done ++ l) (take-append-le f.0 piece more f.1)) in (
+    ap (take (length k.done + f.0)) text ∙ (take-append-add k.done (piece ++ more) f.0 ∙ ap (λ (l : List ℕ). k.done ++ l) (take-append-le f.0 piece more f.1)) in (
       length k.done + f.0,
       rw text (omega (arith, length-append k.done (piece ++ more), length-append piece more, f.1)),
       f.2 ∙ (ap (λ (h : Option (List ℕ)). told_with h (take f.0 piece)) k.written ∙ (told_twice old k.done (take f.0 piece) ∙ ap (told_with old) (sym front))),
