@@ -109,3 +109,11 @@ fn a_group_is_copied_whole(rt: HostRuntime) -> Result<(), Fail> {
     assert_eq!(rt; copy.members().len(), 2);
     Ok(())
 }
+
+#[test]
+fn a_name_is_shown_as_its_bytes(rt: HostRuntime) -> Result<(), Fail> {
+    let name = Name::read(b"ann-1~")?;
+    let shown = format!(in rt.alloc(); "{name}")?;
+    assert!(rt; shown.as_str() == "ann-1~");
+    Ok(())
+}

@@ -1,4 +1,4 @@
-ghost use Rattle.std.specs.Prelude.{◌≡◌, ◌+◌, ◌≤◌, find, nat_eq, ◌<◌, [], IfOk, IfSome, Some, length, vec_len, string_bytes};
+ghost use Rattle.std.specs.Prelude.{◌≡◌, ◌+◌, ◌≤◌, find, nat_eq, ◌<◌, [], IfOk, IfSome, Some, length, vec_capacity, vec_len, string_bytes};
 ghost use Rattle.std.specs.Cmp.Lexicographic.{pointwise};
 ghost use Rattle.std.specs.Option.{option_copied};
 ghost use Rattle.outside.specs.Memory.{file_named};
@@ -119,7 +119,9 @@ pub struct MemSink {
 impl MemSink {
     /// An empty sink with room for this many bytes, of which the calls of these numbers, counted from 0, fail.
     pub fn make(alloc: Global, room: usize, failing: Vec<u64>) -> Result<MemSink, AllocError>
-        ensures { IfOk result (λ sink. (sink.bytes.items ≡ []) × (sink.failing ≡ failing) × (sink.calls ≡ 0) × (sink.faults ≡ 0)) }
+        ensures empty { IfOk result (λ sink. (sink.bytes.items ≡ []) × (sink.calls ≡ 0) × (sink.faults ≡ 0)) }
+        ensures failing { IfOk result (λ sink. sink.failing ≡ failing) }
+        ensures room { IfOk result (λ sink. room ≤ vec_capacity sink.bytes) }
     {
         Ok(MemSink {
             bytes: Vec::with_capacity(alloc, room)?,
