@@ -115,7 +115,7 @@ grant_is_no_retake : (line : ℕ) (charge : Charge) → Grant (Reserve line) ≡
 grant_is_no_retake line charge e = cc
 
 -- a grant is of the first RESERVE line with room, or of Open where there is room
-abbrev GrantOf : Option ℕ → Bool → Charge → Type 0
+abbrev pub GrantOf : Option ℕ → Bool → Charge → Type 0
 GrantOf o b Open = b ≡ true
 GrantOf o b (Reserve line) = o ≡ Some line
 
@@ -127,7 +127,7 @@ grant_of None true (Reserve m) e = let no : Grant Open ≡ Grant (Reserve m) = e
 grant_of None false Open e = let no : Full ≡ Grant Open = e in cc
 grant_of None false (Reserve m) e = let no : Full ≡ Grant (Reserve m) = e in cc
 
-granted : (r : Rules) (s : State) (client : Client) (charge : Charge) → decide r s client ≡ Grant charge → GrantOf (reserved r s client) (ltb (charges s Open) r.free) charge
+pub granted : (r : Rules) (s : State) (client : Client) (charge : Charge) → decide r s client ≡ Grant charge → GrantOf (reserved r s client) (ltb (charges s Open) r.free) charge
 granted r s client charge e =
     let last : Decision = cond (ltb (charges s Open) r.free) (Grant Open) Full in
     let third : Decision = unless (reserved r s client) (λ line. Grant (Reserve line)) last in
@@ -294,7 +294,7 @@ keeps_joined r s q qs k = record {
   single = λ p. omega (arith, k.single p, count-push (is_queuer p) s.queue q, count-cons (is_queuer p) q qs);
 }
 
-keeps_offered : (r : Rules) (s : State) (q : Queuer) (qs : List Queuer) (d : Decision) → decide r s q.client ≡ d → IsSound r → Keeps r s (q ∷ qs) → Keeps r (offered s q d) qs
+pub keeps_offered : (r : Rules) (s : State) (q : Queuer) (qs : List Queuer) (d : Decision) → decide r s q.client ≡ d → IsSound r → Keeps r s (q ∷ qs) → Keeps r (offered s q d) qs
 keeps_offered r s q qs (Retake charge) e g k = keeps_reseated r s q.party q.client charge false (q ∷ qs) qs (retakes r s q.client charge e) (taken_in_turn q qs) k
 keeps_offered r s q qs (Grant charge) e g k =
     let room : (in_use s < r.count) × FitsCharge r s charge = grants r s q.client charge g k.reserved e in
@@ -309,7 +309,7 @@ keeps_serve r s (q ∷ qs) g k = keeps_serve r (offered s q (decide r s q.client
 
 -- time
 
-timed_count : (p : Holder → Bool) (timeout : Option ℕ) (now : ℕ) (hs : List Holder) → count_by p (in_time timeout now hs) ≤ count_by p hs
+pub timed_count : (p : Holder → Bool) (timeout : Option ℕ) (now : ℕ) (hs : List Holder) → count_by p (in_time timeout now hs) ≤ count_by p hs
 timed_count p None now hs = omega arith
 timed_count p (Some t) now hs = count-filter_le p (λ (h : Holder). ltb (now - h.beat) t) hs
 
@@ -317,7 +317,7 @@ timed_length : (timeout : Option ℕ) (now : ℕ) (hs : List Holder) → length 
 timed_length None now hs = omega arith
 timed_length (Some t) now hs = length-filter_le (λ (h : Holder). ltb (now - h.beat) t) hs
 
-keeps_timely : (r : Rules) (s : State) (moment : ℕ) → IsKept r s → Keeps r (record (timely r s moment) { queue = [] }) s.queue
+pub keeps_timely : (r : Rules) (s : State) (moment : ℕ) → IsKept r s → Keeps r (record (timely r s moment) { queue = [] }) s.queue
 keeps_timely r s moment k =
     let now : ℕ = moved s.now moment in
     let lasting : Lingerer → Bool = λ (l : Lingerer). ltb now l.until in

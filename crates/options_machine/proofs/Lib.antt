@@ -9,3 +9,6 @@ pub mod Owns
 pub mod OwnSteps
 pub mod Quits
 pub mod Cuts
+pub mod Orders
+pub mod Frees
+pub mod Standings

@@ -28,11 +28,11 @@ all_filter_step : {X : Type 0} (q p : X → Bool) (x : X) (xs : List X) (b : Boo
 all_filter_step q p x xs true e f h = rw (e, and_left (p x) (list_all p xs) h, f (and_right (p x) (list_all p xs) h)) refl
 all_filter_step q p x xs false e f h = rw e (f (and_right (p x) (list_all p xs) h))
 
-all_filter : {X : Type 0} (q p : X → Bool) (xs : List X) → list_all p xs ≡ true → list_all p (filter q xs) ≡ true
+pub all_filter : {X : Type 0} (q p : X → Bool) (xs : List X) → list_all p xs ≡ true → list_all p (filter q xs) ≡ true
 all_filter q p [] h = refl
 all_filter q p (x ∷ xs) h = all_filter_step q p x xs (q x) refl (all_filter q p xs) h
 
-all_timed : (p : Holder → Bool) (timeout : Option ℕ) (now : ℕ) (hs : List Holder) → list_all p hs ≡ true → list_all p (in_time timeout now hs) ≡ true
+pub all_timed : (p : Holder → Bool) (timeout : Option ℕ) (now : ℕ) (hs : List Holder) → list_all p hs ≡ true → list_all p (in_time timeout now hs) ≡ true
 all_timed p None now hs h = h
 all_timed p (Some t) now hs h = all_filter (λ (x : Holder). ltb (now - x.beat) t) p hs h
 
@@ -40,7 +40,7 @@ all_with_step : (p : Holder → Bool) (h g : Holder) (gs : List Holder) (b : Boo
 all_with_step p h g gs true e one f all = rw (e, one) all
 all_with_step p h g gs false e one f all = rw (e, and_left (p g) (list_all p gs) all, f (and_right (p g) (list_all p gs) all)) refl
 
-all_with : (p : Holder → Bool) (h : Holder) (hs : List Holder) → p h ≡ true → list_all p hs ≡ true → list_all p (with_holder h hs) ≡ true
+pub all_with : (p : Holder → Bool) (h : Holder) (hs : List Holder) → p h ≡ true → list_all p hs ≡ true → list_all p (with_holder h hs) ≡ true
 all_with p h [] one all = rw one refl
 all_with p h (g ∷ gs) one all = all_with_step p h g gs (ltb h.party g.party) refl one (all_with p h gs one) all
 

@@ -41,7 +41,7 @@ pub length_mapped : {X : Type 0} (f : X → X) (xs : List X) → length (map f x
 length_mapped f [] = refl
 length_mapped f (x ∷ xs) = omega (arith, length_mapped f xs)
 
-told_charge : (b : Bool) (now : ℕ) (c : Charge) (h : Holder) → same_charge (told_if b now h).charge c ≡ same_charge h.charge c
+pub told_charge : (b : Bool) (now : ℕ) (c : Charge) (h : Holder) → same_charge (told_if b now h).charge c ≡ same_charge h.charge c
 told_charge true now c h = refl
 told_charge false now c h = refl
 

@@ -1,13 +1,16 @@
-use Rattle.std.specs.Prelude.{◌≡◌, ℕ, ◌≤◌, ◌<◌, true, false, nat_le, List, length}
+use Rattle.std.specs.Prelude.{◌≡◌, ℕ, ◌≤◌, ◌<◌, Bool, true, false, ◌&&◌, nat_le, nat_lt, List, [], ◌∷◌, length}
 use Rattle.std.specs.List.{list_all, list_any}
-use Rattle.options_machine.specs.declared.reply.Charge.TheVariants.{Reserve}
-use Rattle.options_machine.specs.declared.reply.Entry.{Entry}
+use Rattle.std.specs.Option.{is_none}
 use Rattle.options_machine.specs.declared.limits.Limit.{Limit}
+use Rattle.options_machine.specs.declared.reply.Charge.TheVariants.{Reserve, Open}
+use Rattle.options_machine.specs.declared.reply.Entry.{Entry}
+use Rattle.options_machine.specs.declared.rows.Holder.{Holder}
 use Rattle.options_machine.specs.declared.rows.Queuer.{Queuer}
 use Rattle.options_machine.specs.Rules.{IsSound, Rules}
 use Rattle.options_machine.specs.State.{State, charges, entries, in_force, in_use, set_at}
 use Rattle.options_machine.specs.Decide.{decide, is_seat}
 use Rattle.options_machine.specs.Settle.{settle}
+use Rattle.options_machine.specs.Step.{set_asked}
 use Rattle.options_machine.specs.Run.{IsRun, after}
 
 -- the rule sets of a pool of this count: one to four
@@ -35,3 +38,20 @@ RunsAreLawful = (sets : List Rules) (count : ℕ) (h : List Entry) → AreSets s
 -- right after settling nobody waits who could have a seat
 abbrev pub SettlingServes : Type 0
 SettlingServes = (r : Rules) (s : State) (moment : ℕ) → IsServed r (settle r s moment)
+
+-- whether the party of each holder is below those of the holders behind it
+abbrev pub are_in_order : List Holder → Bool
+are_in_order [] = true
+are_in_order (h ∷ hs) = list_all (λ (g : Holder). nat_lt h.party g.party) hs && are_in_order hs
+
+-- in every state of a run the holders stand in the order of their parties, and no two are of one party
+abbrev pub HoldersStandInOrder : Type 0
+HoldersStandInOrder = (sets : List Rules) (count : ℕ) (h : List Entry) → AreSets sets count → IsRun sets h → are_in_order (after sets h).holders ≡ true
+
+-- whether an entry asks for no rule set
+abbrev pub asks_for_none : Entry → Bool
+asks_for_none e = is_none (set_asked e.request.kind)
+
+-- in every state of a run that asks for no rule set, the seats that are charged to Open are at most those that no RESERVE line keeps
+abbrev pub OpenStaysFree : Type 0
+OpenStaysFree = (sets : List Rules) (count : ℕ) (h : List Entry) → AreSets sets count → IsRun sets h → list_all asks_for_none h ≡ true → charges (after sets h) Open ≤ (in_force sets (after sets h)).free

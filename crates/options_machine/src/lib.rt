@@ -12,7 +12,10 @@ mod reply;
 mod rows;
 
 pub use decision::{Decision, Place};
-pub use laws::{quits_leave, runs_are_lawful, settling_serves, standing_replies_agree};
+pub use laws::{
+    holders_stand_in_order, open_stays_free, own_entries_tell, quits_leave, runs_are_lawful,
+    settling_serves, standing_replies_agree,
+};
 pub use limits::Limit;
 pub use reply::{Charge, Entry, Kind, Reply, Request};
 pub use rows::{Holder, Lingerer, Queuer};

@@ -14,3 +14,6 @@ pub use options_machine::{Charge, Entry, Holder, Kind, Limit, Lingerer, Queuer, 
 pub use plain::PlainBook;
 pub use rules::{DeskRules, are_sets};
 pub use words::reply_words;
+
+#[cfg(test)]
+mod tests;

@@ -1,4 +1,4 @@
-ghost use Rattle.std.specs.Prelude.{◌≡◌, ◌<◌, ◌^◌, [], ◌∷◌, true, find, IfOk, IsTrue, slice_get};
+ghost use Rattle.std.specs.Prelude.{◌≡◌, ◌<◌, ◌^◌, [], ◌∷◌, ◌↔◌, true, find, IfOk, IsTrue, slice_get};
 ghost use Rattle.std.specs.List.{list_all, list_any};
 ghost use Rattle.std.specs.Option.{option_map};
 ghost use Rattle.options_machine.specs.Rules.{AreRead, IsSound, applies, is_plain, rules};
@@ -213,9 +213,9 @@ impl DeskRules {
     }
 }
 
-/// Whether these are the rule sets of one pool: one to four, of one count.
+/// Whether these can be the rule sets of one book: one to four, of one count.
 pub fn are_sets(sets: &[DeskRules]) -> bool
-    ensures { IsTrue result → AreSets sets.now (set_at sets.now 0).count }
+    ensures { IsTrue result ↔ AreSets sets.now (set_at sets.now 0).count }
 {
     if sets.is_empty() || sets.len() > 4 {
         return false;
