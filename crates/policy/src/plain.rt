@@ -59,7 +59,8 @@ impl PlainBook {
     /// A book in the opening state, with one rule set, for the parties below `n`.
     pub fn make(alloc: Global, rules: DeskRules, n: u32) -> Result<PlainBook, NoMemory>
         requires parties { n ≤ 256 }
-        ensures { IfOk result (λ book. book ≡ record { sets = rules ∷ []; parties = n; state = opening }) }
+        ensures book { IfOk result (λ book. book ≡ record { sets = rules ∷ []; parties = n; state = opening }) }
+        ensures sets { IfOk result (λ book. AreSets book.sets rules.count) }
     {
         let sets = rules.alone(alloc)?;
         PlainBook::make_many(alloc, sets, n)
