@@ -25,3 +25,6 @@ pub use memory::NoMemory;
 pub use net::Net;
 pub use place::{Access, Place};
 pub use world::World;
+
+#[cfg(test)]
+mod tests;
