@@ -238,6 +238,21 @@ impl Net {
         }
     }
 
+    // the place after the test of bit i, which was set unless `found` is 0
+    fn tested(&self, i: u32, found: u64) -> Place
+        requires { i + 1 < self.now.width }
+        ensures { result ≡ after (plan self.now) 0 (Place.Naming i) found }
+    {
+        let width = self.width();
+        if found == 0 {
+            Place::Named(i)
+        } else if i + 2 == width {
+            Place::Named(i + 1)
+        } else {
+            Place::Naming(i + 1)
+        }
+    }
+
     /// The place of p after the access of `place`, which found the number `found` in its word.
     ///
     /// Counters are found as stored, one more than they stand for, and spin words as the party's
@@ -266,15 +281,7 @@ impl Net {
             } else {
                 self.passed(j)
             },
-            Place::Naming(i) => {
-                if found == 0 {
-                    Place::Named(i)
-                } else if i + 2 == width {
-                    Place::Named(i + 1)
-                } else {
-                    Place::Naming(i + 1)
-                }
-            }
+            Place::Naming(i) => self.tested(i, found),
             Place::Named(s) => Place::Holding(s),
             Place::Holding(s) => if s + 1 == width {
                 self.back(p, self.stages())

@@ -188,6 +188,7 @@ impl World {
         requires { party < self.old.net.parties }
         ensures net { self.new.net ≡ self.old.net }
         ensures moved { machine self.new ≡ move (plan self.old.net) (machine self.old) party }
+        ensures kept { Kept (plan self.new.net) (machine self.new) }
         ensures safe { Safe (plan self.new.net) (machine self.new) }
         ensures access { result ≡ access_of (due (plan self.old.net) party ((machine self.old).place party)) }
     {

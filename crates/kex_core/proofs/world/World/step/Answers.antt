@@ -58,12 +58,15 @@ written c = record {
   cards = c.write.ensures.cards;
 }
 
-pub invariant_of-self : goal.invariant_of-self
-invariant_of-self c =
+after_it : (c : goal.After-access_at) → IsWorld (record { net = c.self.inside.net; places = set c.write.new.self.places.items c.args.party c.after-after.result; counters = c.write.new.self.counters.items; spin_words = c.write.new.self.spin_words.items; bits = c.write.new.self.bits.items; cards = c.write.new.self.cards.items })
+after_it c =
     let s : State = state c.self.inside.net c.self.inside.words in let l = mine s c.args.self.now c.args.party c.self.view_is c.requires in
     step_world s c.self.invariant c.args.party l c.due-place.result (is_due s c.self.invariant c.args.party l c.index.result.now c.due-place.result c.index.ensures c.due-place.ensures)
     (record { net = c.self.inside.net; places = set c.write.new.self.places.items c.args.party c.after-after.result; counters = c.write.new.self.counters.items; spin_words = c.write.new.self.spin_words.items; bits = c.write.new.self.bits.items; cards = c.write.new.self.cards.items })
     c.after-after.result (written c)
+
+pub invariant_of-self : goal.invariant_of-self
+invariant_of-self c = after_it c
 
 pub returns-clause-moved : goal.returns-clause-moved
 returns-clause-moved c =
@@ -72,9 +75,10 @@ returns-clause-moved c =
     subst (λ (r : State). machine t ≡ move (plan r.net) (machine r) c.args.party) c.self.view_is
     (step_moved s c.self.invariant c.args.party l c.due-place.result (is_due s c.self.invariant c.args.party l c.index.result.now c.due-place.result c.index.ensures c.due-place.ensures) t c.after-after.result (written c))
 
+pub returns-clause-kept : goal.returns-clause-kept
+returns-clause-kept c = (after_it c).kept
+
 pub returns-clause-safe : goal.returns-clause-safe
 returns-clause-safe c =
-    let s : State = state c.self.inside.net c.self.inside.words in let l = mine s c.args.self.now c.args.party c.self.view_is c.requires in
     let t : State = record { net = c.self.inside.net; places = set c.write.new.self.places.items c.args.party c.after-after.result; counters = c.write.new.self.counters.items; spin_words = c.write.new.self.spin_words.items; bits = c.write.new.self.bits.items; cards = c.write.new.self.cards.items } in
-    let world = step_world s c.self.invariant c.args.party l c.due-place.result (is_due s c.self.invariant c.args.party l c.index.result.now c.due-place.result c.index.ensures c.due-place.ensures) t c.after-after.result (written c) in
-    safe_of (plan s.net) world.net.valid (machine t) world.kept
+    safe_of (plan t.net) (after_it c).net.valid (machine t) (after_it c).kept
