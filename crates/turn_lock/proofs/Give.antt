@@ -1,25 +1,16 @@
 -- The value goes home.
-use Rattle.std.proofs.Common.{◌≡◌, ◌≢◌, ◌⊎◌, ℕ, zero, suc, ◌+◌, ◌-◌, ◌%◌, ◌^◌, ◌<◌, ◌≤◌, Bool, true, false, List, [], ◌∷◌, ◌++◌, length, map, get_or, set, sym, refl, ap, ◌∙◌, subst, ⊎_elim, inl, inr, arith, Option, Some, None, length-set, get_or-set_other, get_or-set_same, length-append, append-nil, append_assoc, eqb, ne_eqb, eq-eqb, cond, All}
-use mathlib.Core.Logic.{dite}
+use Rattle.std.proofs.Common.{◌≡◌, ℕ, false, List, [], ◌∷◌, get_or, set, sym, refl, ap, ◌∙◌, subst, inl, arith, Option, Some, length-set}
 use mathlib.Core.Option.{none, some, some-injective, some-ne-none}
 use mathlib.Core.Option as maybe
-use native.Mathlib.Decide.{ℕ_discrete, dec_le}
-use lib.ListN.{get_elem?}
-use Rattle.atomic_table.specs.Table.{State, Me, step, keeps, takes, gives, Allows, Splits, Joins, opening, Final, Seen}
-use Rattle.atomic_table.proofs.Lists.{at_map, at_set, set_else, at_last, at_longer, one_turn}
+use Rattle.atomic_table.specs.Table.{State, Me, step, gives, Allows}
 use Rattle.turn_lock.specs.declared.kept.Entry.{Entry}
-use Rattle.turn_lock.specs.declared.view.Role.{Role}
-use Rattle.turn_lock.specs.declared.view.Role.TheVariants.{Maker, Party, Spent}
-use Rattle.turn_lock.specs.declared.view.Stage.{Stage}
-use Rattle.turn_lock.specs.declared.view.Stage.TheVariants.{Idle, Waiting, Turn, Out, Counted, Home}
-use Rattle.turn_lock.specs.declared.view.Joined.{Joined}
+use Rattle.turn_lock.specs.declared.view.Stage.TheVariants.{Counted, Home}
 use Rattle.turn_lock.specs.declared.view.View.{View}
-use Rattle.turn_lock.specs.Entries.{IsPrefix, own}
-use Rattle.turn_lock.specs.Passes.{Pass, Closes}
-use Rattle.turn_lock.specs.Rule.{total, has_ticket, is_out, weigh, weight, tickets_in, made_of, number_of, Stays, Standing, Making, Fits, HasNumber, HasSeen, IsLongest, IsIn, IsOut, Ruled}
-use Rattle.turn_lock.specs.Steps.{maker, spent, dealt, newcomer, joined_of, both, seated, shown, longer, StandsFor, IsGathered, took, drew, watched, counted, gave, passed}
-use Rattle.turn_lock.proofs.Members.{total_set, total_le, total_two, total_snoc, each_set, each_snoc, set_at, at_inside, at_append, at_behind, at_unmap, at_one, all_at, at_all}
-use Rattle.turn_lock.proofs.Keeps.{kept_set, longest_set, restage, knows, stage_is, value_set, value_stays, alone, is_in, not_home, same_words, few_tickets, reload}
+use Rattle.turn_lock.specs.Passes.{Pass}
+use Rattle.turn_lock.specs.Rule.{is_out, Ruled}
+use Rattle.turn_lock.specs.Steps.{seated, gave}
+use Rattle.turn_lock.proofs.Members.{each_set}
+use Rattle.turn_lock.proofs.Keeps.{restage, knows, stage_is, alone, not_home, same_words}
 
 module _ {V L Q A : Type 0} (law_of : V → L) (party : Q → ℕ) (run : L → List (Entry Q A) → Type 0) (stands : V → List (Entry Q A) → Type 0) (law : L) (n : ℕ) where
   abbrev P : Type 0

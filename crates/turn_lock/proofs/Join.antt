@@ -1,26 +1,25 @@
 -- One pass is joined into another.
-use Rattle.std.proofs.Common.{◌≡◌, ◌≢◌, ◌⊎◌, ℕ, zero, suc, ◌+◌, ◌-◌, ◌%◌, ◌^◌, ◌<◌, ◌≤◌, Bool, true, false, List, [], ◌∷◌, ◌++◌, length, map, get_or, set, sym, refl, ap, ◌∙◌, subst, ⊎_elim, inl, inr, arith, Option, Some, None, length-set, get_or-set_other, get_or-set_same, length-append, append-nil, append_assoc, eqb, ne_eqb, eq-eqb, cond, All}
+use Rattle.std.proofs.Common.{◌≡◌, ◌≢◌, ℕ, zero, suc, ◌+◌, ◌<◌, List, ◌∷◌, ◌++◌, length, set, sym, refl, ap, ◌∙◌, subst, ⊎_elim, inl, inr, arith, Option, length-append}
 use mathlib.Core.Logic.{dite}
 use mathlib.Core.Option.{none, some, some-injective, some-ne-none}
 use mathlib.Core.Option as maybe
-use native.Mathlib.Decide.{ℕ_discrete, dec_le}
+use native.Mathlib.Decide.{ℕ_discrete}
 use lib.ListN.{get_elem?}
-use Rattle.atomic_table.specs.Table.{State, Me, step, keeps, takes, gives, Allows, Splits, Joins, opening, Final, Seen}
-use Rattle.atomic_table.proofs.Lists.{at_map, at_set, set_else, at_last, at_longer, one_turn}
+use Rattle.atomic_table.specs.Table.{State, Me, Joins}
+use Rattle.atomic_table.proofs.Lists.{at_set, set_else, at_longer}
 use Rattle.turn_lock.specs.declared.kept.Entry.{Entry}
 use Rattle.turn_lock.specs.declared.view.Role.{Role}
 use Rattle.turn_lock.specs.declared.view.Role.TheVariants.{Maker, Party, Spent}
-use Rattle.turn_lock.specs.declared.view.Stage.{Stage}
-use Rattle.turn_lock.specs.declared.view.Stage.TheVariants.{Idle, Waiting, Turn, Out, Counted, Home}
+use Rattle.turn_lock.specs.declared.view.Stage.TheVariants.{Idle}
 use Rattle.turn_lock.specs.declared.view.Joined.{Joined}
 use Rattle.turn_lock.specs.declared.view.View.{View}
 use Rattle.turn_lock.specs.Entries.{IsPrefix, own}
-use Rattle.turn_lock.specs.Passes.{Pass, Closes}
-use Rattle.turn_lock.specs.Rule.{total, has_ticket, is_out, weigh, weight, tickets_in, made_of, number_of, Stays, Standing, Making, Fits, HasNumber, HasSeen, IsLongest, IsIn, IsOut, Ruled}
-use Rattle.turn_lock.specs.Steps.{maker, spent, dealt, newcomer, joined_of, both, seated, shown, longer, StandsFor, IsGathered, took, drew, watched, counted, gave, passed}
-use Rattle.turn_lock.proofs.Members.{total_set, total_le, total_two, total_snoc, each_set, each_snoc, set_at, at_inside, at_append, at_behind, at_unmap, at_one, all_at, at_all}
-use Rattle.turn_lock.proofs.Owners.{put, put_here, put_else, moved, moved_here, moved_else}
-use Rattle.turn_lock.proofs.Keeps.{kept_set, longest_set, restage, knows, stage_is, value_set, value_stays, alone, is_in, not_home, same_words, few_tickets, reload}
+use Rattle.turn_lock.specs.Passes.{Pass}
+use Rattle.turn_lock.specs.Rule.{has_ticket, is_out, weigh, weight, tickets_in, number_of, Stays, Fits, HasNumber, HasSeen, IsLongest, Ruled}
+use Rattle.turn_lock.specs.Steps.{spent, joined_of, both}
+use Rattle.turn_lock.proofs.Members.{total_set, each_set, set_at, at_append, at_behind}
+use Rattle.turn_lock.proofs.Owners.{moved, moved_here, moved_else}
+use Rattle.turn_lock.proofs.Keeps.{knows, value_set, value_stays}
 
 module _ {Q A : Type 0} where
   -- what holds of each joined entry holds after a join

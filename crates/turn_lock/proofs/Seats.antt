@@ -1,14 +1,13 @@
 -- A pass and its seat.
-use Rattle.std.proofs.Common.{◌≡◌, ℕ, ◌+◌, List, [], ◌∷◌, ◌++◌, map, sym, ap, ◌∙◌, Option, Some}
+use Rattle.std.proofs.Common.{◌≡◌, ℕ, ◌+◌, ◌<◌, length, arith, List, [], ◌∷◌, map, sym, ap, ◌∙◌, Option, Some}
+use Rattle.std.proofs.Math.Nat.{lt_irrefl}
 use Rattle.atomic_table.specs.Seated.{TableId}
 use Rattle.atomic_table.specs.Table.{Me, rest}
 use Rattle.turn_lock.specs.declared.view.Role.TheVariants.{Party}
 use Rattle.turn_lock.specs.declared.view.Stage.TheVariants.{Idle}
-use Rattle.turn_lock.specs.declared.view.Joined.{Joined}
 use Rattle.turn_lock.specs.declared.view.View.{View}
-use Rattle.turn_lock.specs.declared.kept.Entry.{Entry}
 use Rattle.turn_lock.specs.Passes.{Pass}
-use Rattle.turn_lock.specs.Steps.{seated, joined_of, both, pass_at, IsAtRest, maker, dealt, newcomer}
+use Rattle.turn_lock.specs.Steps.{seated, joined_of, both, pass_at, IsAtRest, the_first, maker, dealt, newcomer}
 
 module _ {S : Type 0} where
   pub held : (c : List (ℕ × S)) (k : ℕ) (x : S) (t : List (ℕ × S)) → c ≡ (k, x) ∷ t → c ≡ (k, x) ∷ rest c
@@ -20,6 +19,10 @@ module _ {S : Type 0} where
 
   pub same_hand : (c : List (ℕ × S)) (k : ℕ) (x y : S) (t u : List (ℕ × S)) → c ≡ (k, x) ∷ t → c ≡ (k, y) ∷ u → x ≡ y
   same_hand c k x y t u p q = ap (front_or x) (sym p ∙ q)
+
+pub first_is : {X : Type 0} (xs : List X) (some : 0 < length xs) (x : X) → xs ≡ x ∷ [] → the_first xs some ≡ x
+first_is [] some x e = absurd (lt_irrefl 0 some)
+first_is (y ∷ ys) some x e = cc
 
 pub same_some : {V : Type 0} (o : Option V) (x y : V) → o ≡ Some x → o ≡ Some y → x ≡ y
 same_some o x y p q = cc
@@ -35,11 +38,15 @@ module _ {S L Q A : Type 0} where
   reput m m' v k x y e h = h ∙ ap (λ (z : Me S (View L Q A)). let w : List (ℕ × S) = (k, x) ∷ rest z.1 in (z.0, w)) e
 
   -- the pass that an idle seat makes
-  pub is_pass : (lock : TableId) (number : ℕ) (law : L) (m : Me S (View L Q A)) (p : Pass L Q A) → m ≡ (seated p Idle, []) → lock ≡ p.lock → number ≡ p.number → law ≡ p.law → pass_at lock number law m ≡ p
-  is_pass lock number law m p e a b c = λ i. record { lock = a i; number = b i; law = c i; seen = (e i).0.seen; mine = (e i).0.mine }
+  pub is_pass : (lock : TableId) (number : ℕ) (m : Me S (View L Q A)) (some : 0 < length m.0.law) (p : Pass L Q A) → m ≡ (seated p Idle, []) → lock ≡ p.lock → number ≡ p.number → pass_at lock number m some ≡ p
+  is_pass lock number m some p e a b = λ i. record { lock = a i; number = b i; law = first_is m.0.law some p.law (ap (λ (z : Me S (View L Q A)). z.0.law) e) i; seen = (e i).0.seen; mine = (e i).0.mine }
 
-  pub rests : (lock : TableId) (number : ℕ) (law : L) (m : Me S (View L Q A)) (p : Pass L Q A) → m ≡ (seated p Idle, []) → number ≡ p.number → law ≡ p.law → IsAtRest (pass_at lock number law m) m
-  rests lock number law m p e b c = e ∙ (λ i. let w : View L Q A = record { law = sym c i ∷ []; role = Party (sym b i); stage = Idle; seen = (sym e i).0.seen; mine = (sym e i).0.mine; joined = [] } in let h : List (ℕ × S) = [] in (w, h))
+  pub rests : (lock : TableId) (number : ℕ) (m : Me S (View L Q A)) (some : 0 < length m.0.law) (p : Pass L Q A) → m ≡ (seated p Idle, []) → number ≡ p.number → IsAtRest (pass_at lock number m some) m
+  rests lock number m some p e b = let c = first_is m.0.law some p.law (ap (λ (z : Me S (View L Q A)). z.0.law) e) in
+      e ∙ (λ i. let w : View L Q A = record { law = sym c i ∷ []; role = Party (sym b i); stage = Idle; seen = (sym e i).0.seen; mine = (sym e i).0.mine; joined = [] } in let h : List (ℕ × S) = [] in (w, h))
+
+  pub lawful_at : (m : Me S (View L Q A)) (p : Pass L Q A) → m ≡ (seated p Idle, []) → 0 < length m.0.law
+  lawful_at m p e = let n : length m.0.law ≡ 1 = ap (λ (z : Me S (View L Q A)). length z.0.law) e in omega arith
 
   pub rests_as : (m : Me S (View L Q A)) (p q : Pass L Q A) → IsAtRest p m → p ≡ q → IsAtRest q m
   rests_as m p q e same = e ∙ ap (λ (z : Pass L Q A). let w : View L Q A = seated z Idle in let h : List (ℕ × S) = [] in (w, h)) same

@@ -1,5 +1,5 @@
 -- What a lock and its passes are to whoever has them.
-use Rattle.std.specs.Prelude.{◌≡◌, ◌≢◌, ℕ, ◌%◌, ◌^◌, List, [], length, All}
+use Rattle.std.specs.Prelude.{◌≡◌, ◌≢◌, ℕ, ◌%◌, ◌^◌, ◌≤◌, List, [], length, All}
 use Rattle.atomic_table.specs.Seated.{TableId}
 use Rattle.turn_lock.specs.declared.kept.Entry.{Entry}
 use Rattle.turn_lock.specs.Entries.{own, IsPrefix}
@@ -17,6 +17,14 @@ pub record Pass (L Q A : Type 0) : Type 0 where
   pub law : L
   pub seen : List (Entry Q A)
   pub mine : List (Entry Q A)
+
+-- the table of a lock, whose rule was told how many passes there are
+pub record IsSetUp (id : TableId) (told parties : ℕ) : Type 0 where
+  pub words : id.words ≡ 4
+  pub slots : id.slots ≡ 1
+  pub told_is : told ≡ parties
+  pub some : 1 ≤ parties
+  pub few : parties ≤ 256
 
 -- a pass that was never used
 abbrev pub unused : {L Q A : Type 0} → Lock L → ℕ → Pass L Q A

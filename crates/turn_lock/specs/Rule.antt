@@ -1,5 +1,5 @@
 -- The rule of the lock's table.
-use Rattle.std.specs.Prelude.{◌≡◌, ◌≢◌, ◌⊎◌, ℕ, ◌+◌, ◌-◌, ◌%◌, ◌^◌, ◌<◌, ◌≤◌, Bool, true, false, List, [], ◌∷◌, ◌++◌, length, slice_index, Option, Some}
+use Rattle.std.specs.Prelude.{◌≡◌, ◌≢◌, ◌⊎◌, ℕ, ◌+◌, ◌-◌, ◌%◌, ◌^◌, ◌<◌, ◌≤◌, Bool, true, false, List, [], ◌∷◌, length, slice_index, Option, Some}
 use mathlib.Core.Option.{some, none}
 use mathlib.Core.Option as maybe
 use lib.ListN.{get_elem?}
@@ -13,10 +13,12 @@ use Rattle.turn_lock.specs.declared.view.Joined.{Joined}
 use Rattle.turn_lock.specs.declared.view.View.{View}
 use Rattle.turn_lock.specs.Entries.{own, IsPrefix}
 
+-- what all members are worth together
 abbrev pub total : {X : Type 0} → (X → ℕ) → List X → ℕ
 total f [] = 0
 total f (x ∷ xs) = f x + total f xs
 
+-- how many tickets a seat has at a stage
 abbrev pub has_ticket : Stage → ℕ
 has_ticket Idle = 0
 has_ticket (Waiting t) = 1
@@ -25,6 +27,7 @@ has_ticket (Out t) = 1
 has_ticket (Counted t) = 1
 has_ticket (Home t) = 1
 
+-- whether the value is out with a seat
 abbrev pub is_out : Stage → Bool
 is_out Idle = false
 is_out (Waiting t) = false
@@ -33,11 +36,13 @@ is_out (Out t) = true
 is_out (Counted t) = true
 is_out (Home t) = false
 
+-- how many passes the maker has dealt
 abbrev pub made_of : Role → ℕ
 made_of (Maker m) = m
 made_of (Party p) = 0
 made_of Spent = 0
 
+-- the number of a pass
 abbrev pub number_of : Role → ℕ
 number_of (Maker m) = 0
 number_of (Party p) = p
@@ -55,6 +60,7 @@ tickets_in v = has_ticket v.stage
 abbrev pub weight : {L Q A : Type 0} → ℕ → View L Q A → ℕ
 weight n v = weigh n (length v.joined) v.role
 
+-- what is true of a seat's ticket at a stage: each ticket that is out has one holder, and the turn is the served ticket's
 module _ {E : Type 0} (history : List E) (served drawn : ℕ) (holder : ℕ → ℕ) (seat : ℕ) where
   abbrev pub Stays : List E → Stage → Type 0
   Stays seen Idle = Unit {0}
@@ -75,15 +81,18 @@ module _ {L Q A : Type 0} (party : Q → ℕ) (history : List (Entry Q A)) (law 
     pub mine : own party p history ≡ v.mine
     pub joined : (i : ℕ) (j : Joined Q A) → get_elem? v.joined i ≡ some j → (j.number < made) × (owner j.number ≡ seat) × (own party j.number history ≡ j.mine) × (j.number ≢ p) × IsPrefix j.seen history
 
+  -- what the maker knows, who has dealt m passes
   pub record Making (m : ℕ) (v : View L Q A) : Type 0 where
     pub law_is : v.law ≡ law ∷ []
     pub made_is : m ≡ made
     pub seat_is : seat ≡ maker_seat
     pub idle : v.stage ≡ Idle
 
+  -- what is known of a seat that was joined into another
   pub record Nobody (v : View L Q A) : Type 0 where
     pub idle : v.stage ≡ Idle
 
+  -- the same by the role
   abbrev pub Fits : View L Q A → Role → Type 0
   Fits v (Maker m) = Making m v
   Fits v (Party p) = Standing p v
@@ -111,23 +120,30 @@ abbrev pub IsOut : {V L Q A : Type 0} → List (maybe.Option (Option V)) → Lis
 IsOut {V} {L} {Q} {A} homes views = (homes ≡ none ∷ []) × ((j : ℕ) × (v : View L Q A) × (get_elem? views j ≡ some v) × (is_out v.stage ≡ true))
 
 module _ {V L Q A : Type 0} (law_of : V → L) (party : Q → ℕ) (run : L → List (Entry Q A) → Type 0) (stands : V → List (Entry Q A) → Type 0) where
+  -- the rule
   pub record Ruled (law : L) (n : ℕ) (s : State (Option V) (View L Q A)) : Type 0 where
+    -- the entries so far, the tickets served and drawn, the passes dealt, and where the maker sits
     pub history : List (Entry Q A)
     pub served : ℕ
     pub drawn : ℕ
     pub made : ℕ
     pub maker_seat : ℕ
+    -- the seat that has a ticket, and the seat that has a party's number
     pub holder : ℕ → ℕ
     pub owner : ℕ → ℕ
+    -- the words
     pub wide : length s.words ≡ 4
     pub ticket_is : slice_index s.words 1 ≡ drawn % 2 ^ 64
     pub serving_is : slice_index s.words 2 ≡ served % 2 ^ 64
     pub count_is : slice_index s.words 3 ≡ length history % 2 ^ 64
+    -- the views with a ticket are as many as were drawn and not served
     pub tickets : drawn ≡ served + total tickets_in s.views
+    -- the numbers that the views stand for are all n
     pub few : made ≤ n
     pub weights : total (weight n) s.views ≡ n
     pub runs : run law history
     pub longest : IsLongest history s.views
+    -- a party whose pass was not dealt has no entry, and any other has a view
     pub others : (q : ℕ) → made ≤ q → own party q history ≡ []
     pub kept : (q : ℕ) → q < made → (v : View L Q A) × (get_elem? s.views (owner q) ≡ some v) × HasNumber q v
     pub each : (j : ℕ) (v : View L Q A) → get_elem? s.views j ≡ some v → Fits party history law made maker_seat owner j v v.role × Stays history served drawn holder j v.seen v.stage

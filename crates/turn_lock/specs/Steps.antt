@@ -1,9 +1,9 @@
 -- The views of a seat, and what each step tells.
-use Rattle.std.specs.Prelude.{◌≡◌, ◌≢◌, ℕ, ◌+◌, ◌%◌, ◌^◌, List, [], ◌∷◌, ◌++◌, map, length, Option, Some}
+use Rattle.std.specs.Prelude.{◌≡◌, ◌≢◌, ℕ, ◌+◌, ◌%◌, ◌^◌, ◌<◌, List, [], ◌∷◌, ◌++◌, map, length, Option, Some}
+use Rattle.std.proofs.Math.Nat.{lt_irrefl}
 use Rattle.atomic_table.specs.Seated.{TableId}
 use Rattle.atomic_table.specs.Table.{Me, Step}
 use Rattle.turn_lock.specs.declared.kept.Entry.{Entry}
-use Rattle.turn_lock.specs.declared.view.Role.{Role}
 use Rattle.turn_lock.specs.declared.view.Role.TheVariants.{Maker, Party, Spent}
 use Rattle.turn_lock.specs.declared.view.Stage.{Stage}
 use Rattle.turn_lock.specs.declared.view.Stage.TheVariants.{Idle, Waiting, Turn, Out, Counted, Home}
@@ -12,6 +12,11 @@ use Rattle.turn_lock.specs.declared.view.View.{View}
 use Rattle.turn_lock.specs.Entries.{own, IsPrefix}
 use Rattle.turn_lock.specs.Passes.{Pass}
 use Rattle.turn_lock.specs.Rule.{made_of, number_of}
+
+-- the first of a list that is not empty
+abbrev pub the_first : {X : Type 0} → (xs : List X) → 0 < length xs → X
+the_first [] some = absurd (lt_irrefl 0 some)
+the_first (x ∷ xs) some = x
 
 module _ {L Q A : Type 0} where
   -- the maker's view, once so many passes were made
@@ -49,9 +54,9 @@ module _ {L Q A : Type 0} where
   longer p es = record p { seen = p.seen ++ es; mine = p.mine ++ es }
 
 module _ {S L Q A : Type 0} where
-  -- the pass of an idle seat
-  abbrev pub pass_at : TableId → ℕ → L → Me S (View L Q A) → Pass L Q A
-  pass_at lock number law m = record { lock = lock; number = number; law = law; seen = m.0.seen; mine = m.0.mine }
+  -- the pass that has this number and this seat
+  abbrev pub pass_at : TableId → ℕ → (m : Me S (View L Q A)) → 0 < length m.0.law → Pass L Q A
+  pass_at lock number m lawful = record { lock = lock; number = number; law = the_first m.0.law lawful; seen = m.0.seen; mine = m.0.mine }
 
   -- the seat has no ticket, and nothing of the table is out with it
   abbrev pub IsAtRest : Pass L Q A → Me S (View L Q A) → Type 0

@@ -1,6 +1,4 @@
 //! The smallest value that can stand behind the lock: a running sum.
-ghost use Rattle.std.specs.Prelude.{◌≡◌};
-
 use crate::kept::{Kept, Stepped};
 use std::sync::Wait;
 
@@ -16,31 +14,8 @@ pub struct Addend {
 /// The sum of all amounts so far, modulo 2^64. Each request is answered with the sum before it, and uses the moment that it is handed.
 #[derive(Debug, Drop)]
 pub struct Sum {
-    total: u64,
-}
-
-impl std::marker::Model for Sum {
-    ghost use Rattle.std.specs.Prelude.{ℕ};
-
-    ghost Value = { ℕ };
-
-    ghost view = { λ s. s.total };
-}
-
-impl Sum {
-    /// The empty sum, 0.
-    pub fn new() -> Sum
-        ensures { result ≡ 0 }
-    {
-        Sum { total: 0 }
-    }
-
-    /// The sum so far.
-    pub fn total(&self) -> u64
-        ensures { result ≡ self.now }
-    {
-        self.total
-    }
+    /// The sum, which is 0 where the sum stands for no request.
+    pub total: u64,
 }
 
 impl Kept for Sum {
@@ -50,6 +25,7 @@ impl Kept for Sum {
 
     type Law = ();
 
+    ghost use Rattle.std.specs.Prelude.{◌≡◌};
     ghost use Rattle.turn_lock.specs.Sums.{IsRun, total_of};
 
     ghost law = { λ _. tt };
@@ -62,7 +38,7 @@ impl Kept for Sum {
 
     ghost used = { λ _ _ m. m };
 
-    ghost stands = { λ s h. s ≡ total_of h };
+    ghost stands = { λ s h. s.total ≡ total_of h };
 
     fn step<R: Wait>(&mut self, _rt: &R, request: &Addend, moment: u64) -> Stepped<u64> {
         let answer = self.total;

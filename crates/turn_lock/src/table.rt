@@ -20,7 +20,7 @@ pub(crate) const VALUE: usize = 0;
 
 /// What the rule is told when the table is made.
 #[derive(Drop)]
-pub struct Opening<V> {
+pub(crate) struct Opening<V> {
     /// The value as it was then.
     pub value: Snapshot<V>,
     /// How many passes there are.
@@ -28,7 +28,7 @@ pub struct Opening<V> {
 }
 
 /// The rule of the table.
-pub struct InTurn<V> {
+pub(crate) struct InTurn<V> {
     of: PhantomData<V>,
 }
 
@@ -42,7 +42,7 @@ impl<V: Kept> TableRule<Option<V>, View<V::Law, V::Request, V::Answer>, Opening<
 }
 
 /// Four words, and one slot with the value.
-pub type LockTable<V: Kept> = Table<
+pub(crate) type LockTable<V: Kept> = Table<
     Option<V>,
     View<V::Law, V::Request, V::Answer>,
     Opening<V>,
@@ -51,7 +51,7 @@ pub type LockTable<V: Kept> = Table<
 >;
 
 /// A seat at the table.
-pub type LockSeat<V: Kept> = Seat<Option<V>, View<V::Law, V::Request, V::Answer>>;
+pub(crate) type LockSeat<V: Kept> = Seat<Option<V>, View<V::Law, V::Request, V::Answer>>;
 
 /// Raises the ticket word: the seat has the ticket that was found.
 pub(crate) struct Draw;

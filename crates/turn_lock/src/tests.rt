@@ -26,7 +26,7 @@ fn ask_often<R: Wait>(
 
 #[test]
 fn answers_are_the_sums_before(rt: HostRuntime) -> Result<(), Fail> {
-    let made = Turns::make(rt.alloc(), Sum::new(), 1);
+    let made = Turns::make(rt.alloc(), Sum { total: 0 }, 1);
     assert!(rt; made.is_ok());
     let Ok((lock, mut passes)) = made else {
         return Ok(());
@@ -34,17 +34,13 @@ fn answers_are_the_sums_before(rt: HostRuntime) -> Result<(), Fail> {
     let mut pass = passes.pop().unwrap();
     let party = pass.number();
     assert_eq!(rt; party, 0);
-    for (amount, answer, place) in [(5, 0, 0), (7, 5, 1)] {
-        let moment = 100 + place;
-        let told = lock.ask(&rt, &mut pass, &Addend { party, amount }, moment);
-        assert_eq!(rt;
-            (told.answer, told.place, told.used),
-            (answer, place, moment)
-        );
-    }
+    let first = lock.ask(&rt, &mut pass, &Addend { party, amount: 5 }, 100);
+    let second = lock.ask(&rt, &mut pass, &Addend { party, amount: 7 }, 99);
+    assert_eq!(rt; (first.answer, first.place, first.used), (0, 0, 100));
+    assert_eq!(rt; (second.answer, second.place, second.used), (5, 1, 99));
     passes.push_reserved(pass);
     let (sum, calls) = lock.close(passes);
-    assert_eq!(rt; (sum.total(), calls), (12, 2));
+    assert_eq!(rt; (sum.total, calls), (12, 2));
     Ok(())
 }
 
@@ -70,12 +66,12 @@ fn both_ask<R: Threads + Wait + Sync>(
     passes.push_reserved(first);
     passes.push_reserved(second);
     let (sum, calls) = lock.close(passes);
-    (sum.total(), calls)
+    (sum.total, calls)
 }
 
 #[test]
 fn two_threads_lose_no_call(rt: HostRuntime) -> Result<(), Fail> {
-    let made = Turns::make(rt.alloc(), Sum::new(), 2);
+    let made = Turns::make(rt.alloc(), Sum { total: 0 }, 2);
     assert!(rt; made.is_ok());
     let Ok((lock, passes)) = made else {
         return Ok(());
@@ -104,17 +100,16 @@ fn places_of<R: Wait>(rt: &R, lock: &Turns<Sum>, mut pass: TurnPass<Sum>) -> [u6
 
 #[test]
 fn eight_threads_have_places_of_their_own(rt: HostRuntime) -> Result<(), Fail> {
-    let made = Turns::make(rt.alloc(), Sum::new(), 8);
+    let made = Turns::make(rt.alloc(), Sum { total: 0 }, 8);
     assert!(rt; made.is_ok());
     let Ok((lock, passes)) = made else {
         return Ok(());
     };
     let shared = &lock;
-    let lists = map_vec(
-        &rt,
-        passes,
-        &|pass: TurnPass<Sum>| places_of(&rt, shared, pass),
-    )?;
+    let asking = |pass: TurnPass<Sum>| -> [u64; 500]
+        requires { pass.lock ≡ shared.now.id }
+    { places_of(&rt, shared, pass) };
+    let lists = map_vec(&rt, passes, &asking)?;
     let mut taken = [false; 4000];
     for places in &lists {
         assert!(rt; places.is_sorted());

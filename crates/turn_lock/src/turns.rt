@@ -43,14 +43,13 @@ pub struct Turns<V: Kept> {
 }
 
 impl<V: Kept> Model for Turns<V> {
-    ghost use Rattle.std.specs.Prelude.{◌≡◌, ◌≤◌};
-    ghost use Rattle.turn_lock.specs.Passes.{Lock};
+    ghost use Rattle.turn_lock.specs.Passes.{Lock, IsSetUp};
 
     ghost Value = { Lock V.Law };
 
     ghost view = { λ t. record { id = t.table.shared.table_id; parties = t.parties; law = V.law t.table.shared.key.value.value } };
 
-    ghost invariant = { λ t. (t.table.shared.table_id.words ≡ 4) × (t.table.shared.table_id.slots ≡ 1) × (t.table.shared.key.parties ≡ t.parties) × (1 ≤ t.parties) × (t.parties ≤ 256) };
+    ghost invariant = { λ t. IsSetUp t.table.shared.table_id t.table.shared.key.parties t.parties };
 }
 
 /// What a party asks with, of one lock. One thread at a time has it.
@@ -59,8 +58,9 @@ impl<V: Kept> Model for Turns<V> {
 #[derive(Drop)]
 pub struct TurnPass<V: Kept> {
     number: u32,
-    opening: Snapshot<Opening<V>>,
     seat: LockSeat<V>,
+    // So that contracts can read the law from the seat's view.
+    ghost lawful: { 0 < length seat.me.0.law },
 }
 
 impl<V: Kept> Model for TurnPass<V> {
@@ -69,9 +69,9 @@ impl<V: Kept> Model for TurnPass<V> {
 
     ghost Value = { Pass V.Law V.Request V.Answer };
 
-    ghost view = { λ p. pass_at p.seat.table_id p.number (V.law p.opening.value.value.value) p.seat.me };
+    ghost view = { λ p. pass_at p.seat.table_id p.number p.seat.me p.lawful };
 
-    ghost invariant = { λ p. IsAtRest (pass_at p.seat.table_id p.number (V.law p.opening.value.value.value) p.seat.me) p.seat.me };
+    ghost invariant = { λ p. IsAtRest (pass_at p.seat.table_id p.number p.seat.me p.lawful) p.seat.me };
 }
 
 impl<V: Kept> TurnPass<V> {
@@ -117,7 +117,7 @@ impl<V: Kept> Turns<V> {
         match Table::new(alloc, &[0, 0, 0, 0], slots, &opening) {
             Ok((table, mut seat)) => {
                 let turns = Turns { table, parties: n };
-                turns.deal(&mut seat, &mut passes, &opening);
+                turns.deal(&mut seat, &mut passes);
                 Ok((turns, passes))
             }
             Err(Refused { slots }) => Err((NoMemory, sole(slots))),
@@ -190,10 +190,9 @@ impl<V: Kept> Turns<V> {
     }
 
     // Deals the passes, whose room is there.
-    fn deal(&self, seat: &mut LockSeat<V>, passes: &mut Vec<TurnPass<V>>, opening: &Opening<V>)
+    fn deal(&self, seat: &mut LockSeat<V>, passes: &mut Vec<TurnPass<V>>)
         requires lock { seat.old.table_id ≡ self.now.id }
         requires opens { seat.old.me ≡ (maker self.now.law 0, []) }
-        requires opening { (opening.now.parties ≡ self.now.parties) × (V.law opening.now.value.value ≡ self.now.law) }
         requires room { (passes.old.items ≡ []) × (self.now.parties ≤ vec_capacity passes.old) }
         ensures count { vec_len passes.new ≡ self.now.parties }
         ensures dealt { EachIndex passes.new.items (λ i. slice_get passes.new.items i ≡ Some (unused self.now i)) }
@@ -202,7 +201,6 @@ impl<V: Kept> Turns<V> {
             let other = self.table.shared.split_seat::<Deal>(seat);
             passes.push_reserved(TurnPass {
                 number,
-                opening: Snapshot::of(opening),
                 seat: other,
             });
         }
@@ -300,11 +298,7 @@ impl<V: Kept> TurnPass<V> {
         ensures lock { result.table_id ≡ self.lock }
         ensures idle { IsAtRest self result.me }
     {
-        let TurnPass {
-            number: _,
-            opening: _,
-            seat,
-        } = self;
+        let TurnPass { number: _, seat } = self;
         seat
     }
 }

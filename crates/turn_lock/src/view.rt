@@ -3,7 +3,7 @@ use crate::kept::Entry;
 use std::collections::LinkedList;
 
 /// Whose view it is.
-pub enum Role {
+pub(crate) enum Role {
     /// The one that deals the passes, with the number of those that were dealt.
     Maker(u64),
     /// A pass, with its number.
@@ -13,7 +13,7 @@ pub enum Role {
 }
 
 /// How far a seat has come in its turn. The number is its ticket, which is not cut to the width of a word.
-pub enum Stage {
+pub(crate) enum Stage {
     /// It has no ticket.
     Idle,
     /// Its ticket is not served yet.
@@ -29,14 +29,14 @@ pub enum Stage {
 }
 
 /// What was left of a view that was joined into another.
-pub struct Joined<Q, A> {
+pub(crate) struct Joined<Q, A> {
     pub number: u64,
     pub seen: LinkedList<Entry<Q, A>>,
     pub mine: LinkedList<Entry<Q, A>>,
 }
 
 /// What one seat knows.
-pub struct View<L, Q, A> {
+pub(crate) struct View<L, Q, A> {
     /// The law alone, or nothing in a spent view.
     pub law: LinkedList<L>,
     pub role: Role,

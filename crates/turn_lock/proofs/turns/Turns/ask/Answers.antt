@@ -1,11 +1,11 @@
 -- p is the pass before the call, h the list that the value stood for when it was taken, and es this call's entry
-use Rattle.std.proofs.Common.{List, [], ◌∷◌, ◌++◌, ap, ◌∙◌, sym, subst, length, ◌%◌, ◌^◌, ℕ}
+use Rattle.std.proofs.Common.{List, [], ◌∷◌, ◌++◌, ap, ◌∙◌, sym, subst, length, ◌%◌, ◌^◌}
 use Rattle.std.proofs.lemmas.List.{append_cancel_right}
 use Rattle.turn_lock.specs.declared.kept.Entry.{Entry}
 use Rattle.turn_lock.specs.Entries.{entry, own}
 use Rattle.turn_lock.specs.Steps.{shown, longer}
 use Rattle.turn_lock.proofs.Owned.{own_mine}
-use Rattle.turn_lock.proofs.Seats.{rests_as, rests}
+use Rattle.turn_lock.proofs.Seats.{rests_as, rests, first_is, lawful_at}
 use Rattle.turn_lock.proofs.turns.Turns.ask.Goals as goal
 
 pub take-value-requires-clause-turn : goal.take-value-requires-clause-turn
@@ -38,8 +38,8 @@ invariant_of-pass g c = let p = c.args.pass.now in let w = c.wait_turn.ensures.t
     let k = c.take-value.ensures.took p w.0 w.1 in let h = k.0 in
     let es = entry c.args.request.now c.step-stepped.result.used c.step-stepped.result.answer ∷ [] in
     let n = c.count-place.ensures.counted (shown p h) w.0 k.1 in
-    let law_is = ap (λ z. z.law) c.pass.view_is in let number_is = ap (λ z. z.number) c.pass.view_is in
-    rests p.lock _ _ _ (longer (shown p h) es) (c.give.ensures.idle (longer (shown p h) es) w.0 n.0) number_is law_is
+    let number_is = ap (λ z. z.number) c.pass.view_is in
+    rests p.lock _ _ _ (longer (shown p h) es) (c.give.ensures.idle (longer (shown p h) es) w.0 n.0) number_is
 
 pub returns-clause-seen : goal.returns-clause-seen
 returns-clause-seen g c = let p = c.args.pass.now in let w = c.wait_turn.ensures.turn p (rests_as _ _ _ c.pass.invariant c.pass.view_is) in
@@ -56,8 +56,8 @@ returns-clause-runs g c = let p = c.args.pass.now in let w = c.wait_turn.ensures
     let es = entry c.args.request.now c.step-stepped.result.used c.step-stepped.result.answer ∷ [] in
     let ran = subst (λ (l : g.row.V-Law.Denot). g.V.Kept.run l (h ++ es)) k.2.2 (s.runs h k.2.0 before) in
     let n = c.count-place.ensures.counted (shown p h) w.0 k.1 in
-    let idle = c.give.ensures.idle (longer (shown p h) es) w.0 n.0 in let seen_is = ap (λ m. m.0.seen) idle in let mine_is = ap (λ m. m.0.mine) idle in
-    let law_is = ap (λ z. z.law) c.pass.view_is in let number_is = ap (λ z. z.number) c.pass.view_is in
+    let idle = c.give.ensures.idle (longer (shown p h) es) w.0 n.0 in let seen_is = ap (λ m. m.0.seen) idle in let mine_is = ap (λ m. m.0.mine) idle in let law_is = first_is _ _ _ (ap (λ m. m.0.law) idle) in
+    let number_is = ap (λ z. z.number) c.pass.view_is in
     subst (λ (z : g.row.V-Law.Denot × List (Entry g.row.V-Request.Denot g.row.V-Answer.Denot)). g.V.Kept.run z.0 z.1) (λ i. (sym law_is i, sym seen_is i)) ran
 
 pub returns-clause-mine : goal.returns-clause-mine
@@ -74,7 +74,7 @@ returns-clause-own g c = let p = c.args.pass.now in let w = c.wait_turn.ensures.
     let es = entry c.args.request.now c.step-stepped.result.used c.step-stepped.result.answer ∷ [] in
     let n = c.count-place.ensures.counted (shown p h) w.0 k.1 in
     let idle = c.give.ensures.idle (longer (shown p h) es) w.0 n.0 in let seen_is = ap (λ m. m.0.seen) idle in let mine_is = ap (λ m. m.0.mine) idle in
-    let law_is = ap (λ z. z.law) c.pass.view_is in let number_is = ap (λ z. z.number) c.pass.view_is in
+    let number_is = ap (λ z. z.number) c.pass.view_is in
     (λ i. own g.V.Kept.party (number_is i) (seen_is i)) ∙ (own_mine g.V.Kept.party p.number h _ c.requires.party ∙ (ap (λ (z : List (Entry g.row.V-Request.Denot g.row.V-Answer.Denot)). z ++ es) k.2.4 ∙ sym mine_is))
 
 pub returns-clause-moment : goal.returns-clause-moment
@@ -83,8 +83,8 @@ returns-clause-moment g c front at = let p = c.args.pass.now in let w = c.wait_t
     let s = c.step-stepped.ensures in let before = subst (λ (l : g.row.V-Law.Denot). g.V.Kept.run l h) (sym k.2.2) k.2.1 in
     let es = entry c.args.request.now c.step-stepped.result.used c.step-stepped.result.answer ∷ [] in
     let n = c.count-place.ensures.counted (shown p h) w.0 k.1 in
-    let idle = c.give.ensures.idle (longer (shown p h) es) w.0 n.0 in let seen_is = ap (λ m. m.0.seen) idle in let mine_is = ap (λ m. m.0.mine) idle in
-    let law_is = ap (λ z. z.law) c.pass.view_is in let number_is = ap (λ z. z.number) c.pass.view_is in
+    let idle = c.give.ensures.idle (longer (shown p h) es) w.0 n.0 in let seen_is = ap (λ m. m.0.seen) idle in let mine_is = ap (λ m. m.0.mine) idle in let law_is = first_is _ _ _ (ap (λ m. m.0.law) idle) in
+    let number_is = ap (λ z. z.number) c.pass.view_is in
     let same = append_cancel_right h front es (sym seen_is ∙ at) in
     s.moment h k.2.0 before ∙ (λ i. g.V.Kept.used ((k.2.2 ∙ sym law_is) i) (same i) c.args.moment)
 
@@ -96,3 +96,21 @@ returns-clause-place g c front at = let p = c.args.pass.now in let w = c.wait_tu
     let idle = c.give.ensures.idle (longer (shown p h) es) w.0 n.0 in let seen_is = ap (λ m. m.0.seen) idle in let mine_is = ap (λ m. m.0.mine) idle in
     let same = append_cancel_right h front es (sym seen_is ∙ at) in
     n.1 ∙ ap (λ (z : List (Entry g.row.V-Request.Denot g.row.V-Answer.Denot)). length z % 2 ^ 64) same
+
+pub invariant_of-pass-inside : goal.invariant_of-pass-inside
+invariant_of-pass-inside g c = let p = c.args.pass.now in let w = c.wait_turn.ensures.turn p (rests_as _ _ _ c.pass.invariant c.pass.view_is) in
+    let k = c.take-value.ensures.took p w.0 w.1 in let h = k.0 in
+    let es = entry c.args.request.now c.step-stepped.result.used c.step-stepped.result.answer ∷ [] in
+    let n = c.count-place.ensures.counted (shown p h) w.0 k.1 in
+    (lawful_at _ (longer (shown p h) es) (c.give.ensures.idle (longer (shown p h) es) w.0 n.0), tt)
+
+pub returns-clause-same : goal.returns-clause-same
+returns-clause-same g c = let p = c.args.pass.now in let w = c.wait_turn.ensures.turn p (rests_as _ _ _ c.pass.invariant c.pass.view_is) in
+    let k = c.take-value.ensures.took p w.0 w.1 in let h = k.0 in
+    let es = entry c.args.request.now c.step-stepped.result.used c.step-stepped.result.answer ∷ [] in
+    let n = c.count-place.ensures.counted (shown p h) w.0 k.1 in
+    let idle = c.give.ensures.idle (longer (shown p h) es) w.0 n.0 in (
+      c.give.ensures.lock ∙ (c.count-place.ensures.lock ∙ (c.take-value.ensures.lock ∙ (c.wait_turn.ensures.lock ∙ ap (λ z. z.lock) c.pass.view_is))),
+      ap (λ z. z.number) c.pass.view_is,
+      first_is _ _ _ (ap (λ m. m.0.law) idle),
+    )

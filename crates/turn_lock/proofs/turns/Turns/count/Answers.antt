@@ -1,4 +1,4 @@
-use Rattle.std.proofs.Common.{rules, arith, ap, ◌∙◌, sym}
+use Rattle.std.proofs.Common.{arith, ap, ◌∙◌, sym}
 use Rattle.turn_lock.proofs.Count.{counts_entry}
 use Rattle.turn_lock.proofs.turns.Turns.count.Goals as goal
 

@@ -20,6 +20,6 @@ loop-number-preserved g c = let i = c.loop-number.invariant in let e = c.split_s
   omega arith,
   subst (λ z. EachIndex z (λ j. slice_get z j ≡ Some (unused lock j))) (sym q.items)
       (each_more (unused lock) c.loop-number.passes.items _ i.4
-      (is_pass _ _ _ _ (unused lock c.loop-number.number) (came_new _ _ _ lock.id _ i.1 e.4) (e.3 ∙ i.0) refl (ap (λ z. g.V.Kept.law z.value.value) c.of.ensures ∙ c.requires.opening.1)
+      (is_pass _ _ _ _ (unused lock c.loop-number.number) (came_new _ _ _ lock.id _ i.1 e.4) (e.3 ∙ i.0) refl
       ∙ ap (unused lock) (sym i.2 ∙ c.loop-number.passes.ok.0))),
 )

@@ -1,4 +1,4 @@
-use Rattle.std.proofs.Common.{◌≡◌, [], ◌∷◌, vec_len, vec_capacity, slice_get, Some, EachIndex}
+use Rattle.std.proofs.Common.{◌≡◌, [], vec_len, vec_capacity, slice_get, Some, EachIndex}
 use Rattle.turn_lock.specs.Passes.{unused}
 use Rattle.turn_lock.specs.Steps.{maker}
 use Rattle.turn_lock.proofs.turns.Turns.deal.Given as goal

@@ -1,4 +1,4 @@
-use Rattle.std.proofs.Common.{refl, rules, arith, ap, ◌∙◌, sym}
+use Rattle.std.proofs.Common.{refl, arith, ap, ◌∙◌, sym}
 use Rattle.turn_lock.proofs.Give.{gives_back}
 use Rattle.turn_lock.proofs.Next.{passes_on}
 use Rattle.turn_lock.proofs.Seats.{reput}

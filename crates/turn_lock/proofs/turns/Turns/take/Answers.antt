@@ -1,4 +1,4 @@
-use Rattle.std.proofs.Common.{◌≡◌, List, ◌∷◌, rules, arith, ap, ◌∙◌, sym, subst, Some}
+use Rattle.std.proofs.Common.{◌≡◌, arith, ap, ◌∙◌, sym, subst, Some}
 use Rattle.turn_lock.specs.Steps.{StandsFor}
 use Rattle.turn_lock.proofs.Take.{takes_out}
 use Rattle.turn_lock.proofs.Seats.{held, same_hand, same_some, reput}

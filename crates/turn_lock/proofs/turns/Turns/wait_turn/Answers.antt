@@ -1,4 +1,4 @@
-use Rattle.std.proofs.Common.{rules, arith, ap, ◌∙◌, sym}
+use Rattle.std.proofs.Common.{arith, ap, ◌∙◌, sym}
 use Rattle.turn_lock.proofs.Ticket.{draws}
 use Rattle.turn_lock.proofs.Watch.{watches}
 use Rattle.turn_lock.proofs.turns.Turns.wait_turn.Goals as goal
