@@ -1,0 +1,80 @@
+//! Runs a full clock of lingering seats as often as its arguments say, to measure what a call costs.
+//!
+//! `linger_bench settle ROOM ROUNDS` takes out the first deadline and adds one for its owner, ROUNDS times over;
+//! `linger_bench remove ROOM ROUNDS` does so with the deadline of an owner that a generator picks. It prints the sum of the owners,
+//! modulo 2^64, so that a wrong answer shows.
+#![tactic(auto)]
+
+ghost use Rattle.std.specs.Prelude.{◌<◌};
+
+use anyhow::{Context, Result, bail, ensure};
+use linger_clock::Clock;
+use std::env;
+
+/// Which call goes with `add` in a round.
+#[derive(Clone, Copy)]
+enum Kind {
+    Settle,
+    Remove,
+}
+
+fn kind_of(word: &str) -> Result<Kind> {
+    match word {
+        "settle" => Ok(Kind::Settle),
+        "remove" => Ok(Kind::Remove),
+        _ => bail!("neither settle nor remove"),
+    }
+}
+
+// The next state of Knuth's 64-bit linear congruential generator (MMIX).
+fn next(state: u64) -> u64 {
+    state
+        .wrapping_mul(6364136223846793005)
+        .wrapping_add(1442695040888963407)
+}
+
+// A moment below 2^24, from the upper bits of a state.
+fn moment(state: u64) -> u64 {
+    state >> 40
+}
+
+fn fill(clock: &mut Clock, room: u32) -> u64 {
+    let mut state = 1;
+    for owner in 0..room {
+        state = next(state);
+        let _ = clock.add(u64::from(owner), moment(state));
+    }
+    state
+}
+
+fn rounds(clock: &mut Clock, kind: Kind, room: u32, count: u32) -> u64
+    requires { 0 < room }
+{
+    let mut state = fill(clock, room);
+    let mut sum = 0u64;
+    for _ in 0..count {
+        state = next(state);
+        let picked = (state >> 33) % u64::from(room);
+        let taken = match kind {
+            Kind::Settle => clock.settle(u64::MAX),
+            Kind::Remove => clock.remove(picked).map(|_| picked),
+        };
+        if let Some(owner) = taken {
+            sum = sum.wrapping_add(owner);
+            let _ = clock.add(owner, moment(state));
+        }
+    }
+    sum
+}
+
+fn main(rt: HostRuntime) -> Result<()> {
+    let mut words = env::args(&rt)?.skip(1);
+    let kind = kind_of(words.next().context("no kind")?.as_str())?;
+    let room: u32 = words.next().context("no room")?.parse()?;
+    let count: u32 = words.next().context("no count")?.parse()?;
+    ensure!(room > 0, "a room of 0");
+    let mut clock = Clock::make(rt.alloc(), room)?;
+    let sum = rounds(&mut clock, kind, room, count);
+    println!(rt; "{sum}")?;
+    Ok(())
+}

@@ -1,0 +1,4 @@
+pub mod Deadlines
+pub mod Kept
+pub mod Ranks
+pub mod Tree
