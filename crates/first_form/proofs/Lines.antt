@@ -1,4 +1,4 @@
-use Rattle.std.proofs.Common.{◌≡◌, ℕ, List, [], ◌∷◌, ◌++◌, Option, None, Some, Result, Ok, refl, sym, ap, ◌∙◌, append_assoc}
+use Rattle.std.proofs.Common.{◌≡◌, ℕ, List, [], ◌∷◌, ◌++◌, Option, None, Some, Result, refl, sym, ap, ◌∙◌, append_assoc}
 use Rattle.lic_text.specs.Lines.{Worded}
 use Rattle.lic_text.specs.declared.fault.TextFault.{TextFault}
 use Rattle.first_form.specs.Each.{each_line, onto, read_as, with_front}

@@ -1,6 +1,5 @@
-use Rattle.std.proofs.Common.{◌≡◌, ℕ, ◌≤◌, Bool, true, false, ◌&&◌, cond, leb, length, IfSome, ◌∙◌, List, Option, None, Some, Result, Ok, Err, refl, sym, ap, subst, inl, inr}
+use Rattle.std.proofs.Common.{◌≡◌, ℕ, List, Option, Err, refl, subst, inl, inr}
 use Rattle.lic_types.specs.declared.client.RuleLine.{RuleLine}
-use Rattle.first_form.specs.Form.{is_in_first_form}
 use Rattle.first_form.specs.Licence.{licence_of}
 use Rattle.first_form.specs.Options.{options_of}
 use Rattle.first_form.specs.declared.licence.PlainPool.{PlainPool}
@@ -9,7 +8,6 @@ use Rattle.scripts.specs.declared.line.ScriptLine.{ScriptLine}
 use Rattle.licence_main.specs.Files.{AreBytes, IsNotInForm, IsReadAs, ReadingSays}
 use Rattle.licence_main.specs.Replay.{ToldFiles, replayed}
 use Rattle.licence_main.specs.Tool.{ReplaySays, WritingSays}
-use Rattle.licence_main.specs.Whole.{whole}
 use Rattle.licence_main.specs.declared.status.Status.{Status}
 use Rattle.licence_main.specs.declared.status.Status.TheVariants.{Done, Usage, ReadFault, WriteFault, NoMemory, NotYet}
 

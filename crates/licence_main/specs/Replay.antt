@@ -1,4 +1,4 @@
-use Rattle.std.specs.Prelude.{◌≡◌, ℕ, ◌⊎◌, List, [], ◌∷◌, Option, None, Some, IfSome}
+use Rattle.std.specs.Prelude.{◌≡◌, ℕ, ◌⊎◌, List, [], ◌∷◌, Option, None, Some}
 use Rattle.lic_types.specs.declared.client.RuleLine.{RuleLine}
 use Rattle.options_machine.specs.Rules.{Rules, rules}
 use Rattle.outside.specs.Told.{TakesFront, told_with}
@@ -9,7 +9,7 @@ use Rattle.scripts.specs.Reading.{script_lines}
 use Rattle.scripts.specs.Script.{output_of}
 use Rattle.scripts.specs.declared.line.ScriptLine.{ScriptLine}
 use Rattle.licence_main.specs.Command.{FileNames}
-use Rattle.licence_main.specs.Files.{AreBytes, IsNotInForm, IsReadAs}
+use Rattle.licence_main.specs.Files.{IsNotInForm, IsReadAs}
 
 -- the one rule set of the pool, by the rule lines of the options file
 abbrev pub sets_of : PlainPool → List RuleLine → List Rules

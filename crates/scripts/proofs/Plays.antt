@@ -1,12 +1,12 @@
-use Rattle.std.proofs.Common.{◌≡◌, ◌≢◌, ℕ, suc, ◌+◌, ◌<◌, ◌≤◌, ◌^◌, Bool, true, false, ◌&&◌, ◌||◌, List, [], ◌∷◌, ◌++◌, length, drop, get_or, Option, None, Some, cond, zero, refl, sym, ap, ◌∙◌, add-one, arith, codes, eqb, ltb, slice_get, slice_set, unwrap_or, subst}
+use Rattle.std.proofs.Common.{◌≡◌, ℕ, suc, ◌+◌, ◌<◌, ◌^◌, Bool, true, false, ◌||◌, List, [], ◌∷◌, ◌++◌, length, drop, get_or, Option, None, Some, cond, zero, refl, sym, ap, ◌∙◌, add-one, ltb, subst}
 use Rattle.std.proofs.Math.Seq.{drop-cons}
 use Rattle.std.specs.List.{list_all}
 use Rattle.std.specs.Option.{is_none}
 use Rattle.options_machine.specs.declared.reply.Entry.{Entry}
 use Rattle.options_machine.specs.declared.reply.Reply.{Reply}
-use Rattle.options_machine.specs.Own.{is_of_holding, is_of_queueing, is_some_of, standing, standing_from, standing_then, stands_for}
+use Rattle.options_machine.specs.Own.{is_of_holding, is_of_queueing, is_some_of, standing, stands_for}
 use Rattle.options_machine.specs.Rules.{Rules}
-use Rattle.options_machine.specs.Run.{AsksForSet, Follows, IsBelow, IsRun, after, after_entry}
+use Rattle.options_machine.specs.Run.{IsBelow, IsRun, after}
 use Rattle.options_machine.specs.Settle.{moved}
 use Rattle.options_machine.specs.State.{State, opening}
 use Rattle.options_machine.specs.Step.{set_asked, step}
@@ -15,8 +15,7 @@ use Rattle.options_machine.proofs.Quits.{standing-snoc}
 use Rattle.options_machine.proofs.Runs.{after-snoc, run_more}
 use Rattle.first_form.specs.declared.licence.PlainPool.{PlainPool}
 use Rattle.scripts.specs.Fits.{is_fit}
-use Rattle.scripts.specs.Places.{finds_at}
-use Rattle.scripts.specs.Script.{entry_of, finds, keeps_place, output_from, reply_line, request_of, run_from, run_with}
+use Rattle.scripts.specs.Script.{entry_of, finds, keeps_place, request_of, run_from, run_with}
 use Rattle.scripts.specs.declared.line.ScriptLine.{ScriptLine}
 use Rattle.scripts.proofs.Moments.{moved_later, moved_within, step_again, step_now}
 

@@ -1,4 +1,4 @@
-use Rattle.std.specs.Prelude.{ℕ, Bool, ◌&&◌, nat_lt}
+use Rattle.std.specs.Prelude.{Bool, ◌&&◌, nat_lt}
 use Rattle.std.specs.Option.{is_none}
 use Rattle.options_machine.specs.Step.{set_asked}
 use Rattle.scripts.specs.declared.line.ScriptLine.{ScriptLine}

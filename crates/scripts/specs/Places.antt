@@ -1,4 +1,4 @@
-use Rattle.std.specs.Prelude.{ℕ, Bool, false, ◌&&◌, ◌||◌, List, slice_get, unwrap_or}
+use Rattle.std.specs.Prelude.{Bool, false, ◌&&◌, ◌||◌, List, slice_get, unwrap_or}
 use Rattle.lic_types.specs.Groups.{same_name}
 use Rattle.first_form.specs.declared.licence.PlainPool.{PlainPool}
 use Rattle.scripts.specs.Script.{is_high_enough}

@@ -1,4 +1,4 @@
-use Rattle.licence_main.proofs.Clauses.{Performs, complete, not_yet, not_yet_comes, read_fault, unwritten}
+use Rattle.licence_main.proofs.Clauses.{complete, not_yet, not_yet_comes, read_fault, unwritten}
 use Rattle.licence_main.proofs.tool.tool.Goals as goal
 
 pub returns-then-not-is_empty-clause-unwritten : goal.returns-then-not-is_empty-clause-unwritten

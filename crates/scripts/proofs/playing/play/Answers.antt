@@ -1,6 +1,5 @@
-use Rattle.std.proofs.Common.{OnErr, Result, Ok, Err, ◌∙◌, ◌+◌, ◌≡◌, drop, arith, refl, sym}
-use Rattle.scripts.specs.Fits.{is_fit}
-use Rattle.scripts.proofs.Places.{IsNext, begins, found_front, found_more, unknown_front, unknown_more}
+use Rattle.std.proofs.Common.{◌∙◌, arith, refl}
+use Rattle.scripts.proofs.Places.{begins, found_front, found_more, unknown_front, unknown_more}
 use Rattle.scripts.proofs.Plays.{fit_at, line_at}
 use Rattle.scripts.proofs.Writes.{on_err}
 use Rattle.scripts.proofs.playing.play.Goals as goal

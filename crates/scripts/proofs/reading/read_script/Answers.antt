@@ -1,8 +1,5 @@
-use Rattle.std.proofs.Common.{◌≡◌, true, ◌&&◌, [], ◌∷◌, ap, ◌∙◌}
-use Rattle.std.specs.List.{list_all}
 use Rattle.lic_text.specs.LinesLeft.{lines_left, shown}
 use Rattle.first_form.proofs.Lines.{one_more}
-use Rattle.scripts.specs.Fits.{is_fit}
 use Rattle.scripts.specs.Reading.{line_of_words}
 use Rattle.scripts.proofs.Plays.{fit_more}
 use Rattle.scripts.proofs.reading.read_script.Goals as goal

@@ -1,0 +1,28 @@
+#!/bin/sh
+# The layout that the repository keeps: the one line of HANDLES, each crate in crates.txt and in the documents, and no
+# source file of 800 lines or more.
+cd "$(dirname "$0")/.." || exit 1
+wrong=0
+
+say() {
+    echo "layout: $1"
+    wrong=1
+}
+
+[ "$(cat HANDLES)" = "Handles allowed: Threads, Wait, Net." ] || say "HANDLES isn't its one line"
+
+for crate in crates/*/; do
+    name=$(basename "$crate")
+    grep -q "^$name:" crates.txt || say "$name isn't in crates.txt"
+    for page in README.md docs/ARCHITECTURE.md docs/PROOFS.md; do
+        grep -q "\`$name\`" "$page" || say "$page doesn't name $name"
+    done
+done
+
+for source in crates/*/src/*.rt crates/*/src/*/*.rt; do
+    [ -e "$source" ] || continue
+    lines=$(wc -l < "$source")
+    [ "$lines" -lt 800 ] || say "$source has $lines lines"
+done
+
+exit "$wrong"
