@@ -1,0 +1,10 @@
+pub mod Days
+pub mod Small
+pub mod Texts
+pub mod Keys
+pub mod Places
+pub mod Sums
+pub mod Passes
+pub mod Sound
+pub mod Routes
+pub mod Faults

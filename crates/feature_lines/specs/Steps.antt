@@ -1,0 +1,70 @@
+use Rattle.std.specs.Prelude.{ℕ, ◌+◌, nat_lt, ◌==◌, if◌then◌else◌, List, [], ◌∷◌, ◌++◌, length, find, Option, None, Some, Result, Ok, Err}
+use Rattle.std.specs.List.{list_any}
+use Rattle.lic_types.specs.Groups.{same_name}
+use Rattle.lic_types.specs.declared.note.Note.{Note}
+use Rattle.lic_types.specs.declared.note.NoteKind.{NoteKind}
+use Rattle.lic_types.specs.declared.note.NoteKind.TheVariants.{SecondFeature, NodeLocked, NotServed}
+use Rattle.feature_lines.specs.declared.fault.LicenceFault.{LicenceFault}
+use Rattle.feature_lines.specs.declared.fault.LicenceFault.TheVariants.{BadCount, TooManyPools}
+use Rattle.feature_lines.specs.declared.line.FeatureLine.{FeatureLine}
+use Rattle.feature_lines.specs.declared.line.Said.TheVariants.{Nothing, NotServed as Unserved, Feature}
+use Rattle.feature_lines.specs.declared.pool.Pool.{Pool}
+use Rattle.feature_lines.specs.Licence.{Judged, PoolKey, line_key, pool_key, pool_with, same_key}
+
+-- The one pass over the lines, step by step. No public clause cites it: `licence_of` says what it comes to.
+
+-- what the lines so far say: the pools, the notes, and the names of the FEATURE lines
+pub record Sofar : Type 0 where
+  pub pools : List Pool
+  pub notes : List Note
+  pub features : List (List ℕ)
+
+-- before the first line
+abbrev pub blank : Sofar
+blank = record { pools = []; notes = []; features = [] }
+
+abbrev pub with_more : ℕ → Pool → Pool
+with_more count p = record p { count = p.count + count }
+
+-- the first pool of this key has so many more
+abbrev pub raised : PoolKey → ℕ → List Pool → List Pool
+raised key count [] = []
+raised key count (p ∷ ps) = if same_key key (pool_key p) then with_more count p ∷ ps else p ∷ raised key count ps
+
+abbrev pub added_to : FeatureLine → List Pool → Option Pool → Result (List Pool) LicenceFault
+added_to f pools None = if nat_lt (length pools) 64 then Ok (pools ++ pool_with f.count f ∷ []) else Err (TooManyPools f.line)
+added_to f pools (Some p) = if nat_lt 65535 (p.count + f.count) then Err (BadCount f.line) else Ok (raised (line_key f) f.count pools)
+
+-- the count of a line is added to its pool, or makes it
+abbrev pub added : FeatureLine → List Pool → Result (List Pool) LicenceFault
+added f pools = added_to f pools (find (λ p. same_key (line_key f) (pool_key p)) pools)
+
+abbrev pub noted : ℕ → NoteKind → Sofar → Sofar
+noted line kind s = record s { notes = s.notes ++ (record { line = line; kind = kind }) ∷ [] }
+
+abbrev pub with_pools : Sofar → Result (List Pool) LicenceFault → Result Sofar LicenceFault
+with_pools s (Ok pools) = Ok (record s { pools = pools })
+with_pools s (Err fault) = Err fault
+
+abbrev pub counted_or_locked : Sofar → FeatureLine → Result Sofar LicenceFault
+counted_or_locked s f = if f.count == 0 then Ok (noted f.line NodeLocked s) else with_pools s (added f s.pools)
+
+abbrev pub taken : Sofar → FeatureLine → Result Sofar LicenceFault
+taken s f =
+    if f.is_feature
+    then (if list_any (same_name f.name) s.features then Ok (noted f.line SecondFeature s) else counted_or_locked (record s { features = s.features ++ f.name ∷ [] }) f)
+    else counted_or_locked s f
+
+-- the next line is taken
+abbrev pub stepped : Sofar → Judged → Result Sofar LicenceFault
+stepped s (Ok (Feature f)) = taken s f
+stepped s (Ok Nothing) = Ok s
+stepped s (Ok (Unserved line)) = Ok (noted line NotServed s)
+stepped s (Err fault) = Err fault
+
+-- the lines are taken one after another
+abbrev pub passed : Result Sofar LicenceFault → List Judged → Result Sofar LicenceFault
+passed (Err fault) [] = Err fault
+passed (Ok s) [] = Ok s
+passed (Err fault) (line ∷ lines) = passed (Err fault) lines
+passed (Ok s) (line ∷ lines) = passed (stepped s line) lines

@@ -1,0 +1,20 @@
+//! The licence file read exactly: its pools, what isn't served and why, and which pool serves a checkout.
+#![tactic(auto)]
+
+mod date;
+mod draft;
+mod fault;
+mod licence;
+mod line;
+mod pool;
+mod route;
+mod words;
+
+pub use fault::LicenceFault;
+pub use lic_types::{Note, NoteKind};
+pub use licence::{Licence, read_licence};
+pub use pool::Pool;
+pub use route::Found;
+
+#[cfg(test)]
+mod tests;
