@@ -1,0 +1,19 @@
+use Rattle.std.specs.Prelude.{◌≡◌, ◌≢◌, List, ◌++◌, Result, Ok, Err}
+use Rattle.options_text.specs.declared.fault.OptionsFault.{OptionsFault}
+use Rattle.options_text.specs.declared.fault.OptionsFault.TheVariants.{NoMemory}
+
+-- what follows an Ok
+infixl 10 ◌>>=◌
+abbrev pub ◌>>=◌ : {A B E : Type 0} → Result A E → (A → Result B E) → Result B E
+Ok x >>= f = f x
+Err e >>= f = Err e
+
+-- what is seen of a result is this, unless there was too little memory
+abbrev pub IsAnswer : {X Y : Type 0} → (X → Y) → Result X OptionsFault → Result Y OptionsFault → Type 0
+IsAnswer view (Ok x) whole = Ok (view x) ≡ whole
+IsAnswer view (Err fault) whole = fault ≢ NoMemory → Err fault ≡ whole
+
+-- these, and then those, if there are those
+abbrev pub with_front : {X : Type 0} → List X → Result (List X) OptionsFault → Result (List X) OptionsFault
+with_front front (Ok xs) = Ok (front ++ xs)
+with_front front (Err fault) = Err fault

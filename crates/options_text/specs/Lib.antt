@@ -1,0 +1,10 @@
+pub mod Answers
+pub mod Entries
+pub mod Forms
+pub mod Keywords
+pub mod Options
+pub mod Parts
+pub mod Texts
+pub mod Canonical
+pub mod Merging
+pub mod Rises

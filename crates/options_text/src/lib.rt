@@ -1,0 +1,21 @@
+//! The options file: its groups, rules and notes, read exactly and written canonically.
+#![tactic(auto)]
+
+mod entry;
+mod fault;
+mod form;
+mod keyword;
+mod options;
+mod parts;
+mod reading;
+mod text;
+mod told;
+mod writing;
+
+pub use fault::OptionsFault;
+pub use keyword::LogKeyword;
+pub use lic_types::Group;
+pub use options::{Options, read_options, write_options};
+
+#[cfg(test)]
+mod tests;

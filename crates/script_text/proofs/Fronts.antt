@@ -1,0 +1,43 @@
+use Rattle.std.proofs.Common.{◌≡◌, List, [], ◌∷◌, ◌++◌, map, true, Result, Ok, Err, refl, sym, ap, ◌∙◌, append_assoc}
+use Rattle.std.specs.List.{list_all}
+use Rattle.lic_text.specs.Lines.{Worded}
+use Rattle.lic_text.specs.declared.fault.TextFault.{TextFault}
+use Rattle.options_machine.proofs.Counts.{and_left, and_right}
+use Rattle.audit_log.specs.declared.fault.ScriptFault.{ScriptFault}
+use Rattle.script_text.specs.Fits.{is_fit}
+use Rattle.script_text.specs.Script.{all_or_first_fault, line_of, onto}
+use Rattle.script_text.specs.declared.line.ScriptLine.{ScriptLine}
+
+-- these, and then those, if there are those
+abbrev pub with_front : {X E : Type 0} → List X → Result (List X) E → Result (List X) E
+with_front front (Err fault) = Err fault
+with_front front (Ok xs) = Ok (front ++ xs)
+
+-- the lines so far, and those that are left
+abbrev pub as_far_as : List ScriptLine → List (Result Worded TextFault) → Result (List ScriptLine) ScriptFault
+as_far_as front left = with_front front (all_or_first_fault (map line_of left))
+
+front_more : {X E : Type 0} (front : List X) (x : X) (others : Result (List X) E) → with_front (front ++ x ∷ []) others ≡ with_front front (onto (Ok x) others)
+front_more front x (Err fault) = refl
+front_more front x (Ok xs) = ap Ok (append_assoc front (x ∷ []) xs)
+
+-- one line more was read
+pub one_more : (front : List ScriptLine) (x : ScriptLine) (line : Result Worded TextFault) (lines all : List (Result Worded TextFault)) (whole : Result (List ScriptLine) ScriptFault)
+    → Ok x ≡ line_of line → all ≡ line ∷ lines → as_far_as front all ≡ whole → as_far_as (front ++ x ∷ []) lines ≡ whole
+one_more front x line lines all whole is next before =
+    front_more front x (all_or_first_fault (map line_of lines))
+    ∙ (ap (λ (found : Result ScriptLine ScriptFault). with_front front (onto found (all_or_first_fault (map line_of lines)))) is
+    ∙ (ap (λ (ls : List (Result Worded TextFault)). as_far_as front ls) (sym next) ∙ before))
+
+-- a line at fault was met
+pub one_fault : (front : List ScriptLine) (fault : ScriptFault) (line : Result Worded TextFault) (lines all : List (Result Worded TextFault)) (whole : Result (List ScriptLine) ScriptFault)
+    → Err fault ≡ line_of line → all ≡ line ∷ lines → as_far_as front all ≡ whole → whole ≡ Err fault
+one_fault front fault line lines all whole is next before =
+    sym before
+    ∙ (ap (λ (ls : List (Result Worded TextFault)). as_far_as front ls) next
+    ∙ ap (λ (found : Result ScriptLine ScriptFault). with_front front (onto found (all_or_first_fault (map line_of lines)))) (sym is))
+
+-- one fit line more
+pub fit_more : (lines : List ScriptLine) (line : ScriptLine) → list_all is_fit lines ≡ true → is_fit line ≡ true → list_all is_fit (lines ++ line ∷ []) ≡ true
+fit_more [] line h f = rw f refl
+fit_more (x ∷ xs) line h f = rw (and_left (is_fit x) (list_all is_fit xs) h) (fit_more xs line (and_right (is_fit x) (list_all is_fit xs) h) f)

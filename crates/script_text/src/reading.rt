@@ -1,0 +1,61 @@
+ghost use Rattle.std.specs.Prelude.{◌≡◌, ◌<◌, ◌^◌, IfOk, MatchResult, Ok, length, true};
+ghost use Rattle.std.specs.List.{list_all};
+ghost use Rattle.lic_text.specs.LinesLeft.{shown};
+ghost use Rattle.script_text.specs.Fits.{is_fit};
+ghost use Rattle.script_text.specs.Script.{IsRefused, line_of, script_of};
+
+use crate::line::ScriptLine;
+use crate::refusal::ScriptRefusal;
+use crate::words::read_words;
+use audit_log::ScriptFault;
+use lic_text::{Line, TextFault, lines};
+use std::alloc::Global;
+
+/// The script line of a logical line.
+fn read_line(line: Result<Line<'_>, TextFault>) -> Result<ScriptLine, ScriptFault>
+    ensures line { result ≡ line_of (shown line.entry) }
+    ensures fit { IfOk result (λ line. is_fit line ≡ true) }
+{
+    let line = line?;
+    match read_words(line.first(), line.words()) {
+        Ok(line) => Ok(line),
+        Err(fault) => Err(ScriptFault {
+            line: line.first(),
+            fault,
+        }),
+    }
+}
+
+/// The lines of a script in their order, each line with words being one of
+///
+/// - `moment party user host display project CHECKOUT feature version`
+/// - `moment party user host display project VERB feature`, VERB being CHECKIN, BEAT, LOOK, STATUS or QUIT
+///
+/// in just these capitals. The moment is in seconds since 1970-01-01 UTC and below 2^40, the party is below 256.
+/// STATUS asks for the numbers of the pool (`Kind::Count`). The grammar is this project's own.
+///
+/// `Fault` comes exactly where a line is at fault, and names the first such line. Its faults are tried in this order:
+///
+/// 1. `Text` where the lines end early, in a line too long or an open continuation.
+/// 2. `WordCount` where the line has fewer than 8 words.
+/// 3. The first 7 words from left to right: `BadNumber` for a moment or a party that is no number or is out of its
+///    range, `BadName` for a user, host, display or project that is no name, `UnknownWord` for a verb that isn't one
+///    of the six.
+/// 4. `WordCount` where a checkout hasn't 9 words, or another line hasn't 8.
+/// 5. `BadName` for a feature that is no name.
+/// 6. `BadVersion` for a version that is none.
+///
+/// `NoMemory` comes where there is too little memory to hold the lines.
+pub fn read_script(alloc: Global, file: &[u8]) -> Result<Vec<ScriptLine>, ScriptRefusal>
+    requires { length file.now < 2 ^ 32 }
+    ensures script { MatchResult result (λ script. script_of file.now ≡ Ok script.items) (IsRefused (script_of file.now)) }
+    ensures fit { IfOk result (λ script. list_all is_fit script.items ≡ true) }
+{
+    let mut script = Vec::new(alloc);
+    for line in lines(file) {
+        let line = read_line(line)?;
+        prove!(line.feature.is_some());
+        script.push(line)?;
+    }
+    Ok(script)
+}
