@@ -1,6 +1,7 @@
 ghost use Rattle.std.specs.Prelude.{◌≡◌, ◌<◌, ◌≤◌, ◌-◌, length};
 
 mod random;
+mod trees;
 
 use crate::chain;
 use kex_core::{Net, NetFault, NoMemory, Place, World};
