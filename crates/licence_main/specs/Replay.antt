@@ -1,4 +1,4 @@
-use Rattle.std.specs.Prelude.{◌≡◌, ℕ, ◌⊎◌, List, [], ◌∷◌, Option, None, Some}
+use Rattle.std.specs.Prelude.{◌≡◌, ℕ, ◌⊎◌, List, [], ◌∷◌, Option, None, Some, IfSome}
 use Rattle.lic_types.specs.declared.client.RuleLine.{RuleLine}
 use Rattle.options_machine.specs.Rules.{Rules, rules}
 use Rattle.outside.specs.Told.{TakesFront, told_with}
@@ -28,6 +28,10 @@ pub record ToldFiles : Type 0 where
 -- what the files of these names hold
 abbrev pub told_by : (List ℕ → Option (List ℕ)) → FileNames → ToldFiles
 told_by contents names = record { licence = contents names.licence; options = contents names.options; script = contents names.script }
+
+-- what is said of the files that a command names, where there is a command
+abbrev pub ForFiles : Option FileNames → (List ℕ → Option (List ℕ)) → (ToldFiles → Type 0) → Type 0
+ForFiles command contents says = IfSome command (λ names. says (told_by contents names))
 
 -- the text that a replay of the three files writes: their bytes are in the first form, and it is the output of the script against the rules of the pool
 pub record IsReplayOf (told : ToldFiles) (text : List ℕ) : Type 0 where

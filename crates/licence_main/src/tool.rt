@@ -1,11 +1,11 @@
-ghost use Rattle.std.specs.Prelude.{◌≡◌, ◌≢◌, ◌↔◌, ◌⊎◌, ◌≤◌, ℕ, [], ◌∷◌, IfOk, IfSome, None, map, string_bytes, true};
+ghost use Rattle.std.specs.Prelude.{◌≡◌, ◌≢◌, ◌↔◌, ◌⊎◌, ◌≤◌, ℕ, [], ◌∷◌, IfOk, None, map, string_bytes, true};
 ghost use Rattle.std.specs.List.{list_all};
 ghost use Rattle.options_machine.specs.Rules.{is_plain};
 ghost use Rattle.options_machine.specs.State.{opening};
 ghost use Rattle.outside.specs.Told.{HasRisen};
 ghost use Rattle.scripts.specs.Fits.{is_fit};
 ghost use Rattle.licence_main.specs.Command.{command_of};
-ghost use Rattle.licence_main.specs.Replay.{AreAccepted, IsFirstNotYet, IsReached, IsRefusedAt, WritesFront, WritesReplay, replayed, sets_of, told_by};
+ghost use Rattle.licence_main.specs.Replay.{AreAccepted, ForFiles, IsFirstNotYet, IsReached, IsRefusedAt, WritesFront, WritesReplay, replayed, sets_of, told_by};
 ghost use Rattle.licence_main.specs.Status.{line_of};
 ghost use Rattle.licence_main.specs.Tool.{GainsLine, ReplaySays, WritingSays};
 
@@ -61,8 +61,11 @@ fn replay<F: Files, O: Sink>(
     files: &mut F,
     out: &mut O,
 ) -> Status
-    ensures { ReplaySays (told_by (F.contents files.old) (record { licence = command.entry.licence.now; options = command.entry.options.now; script = command.entry.script.now }))
-        (HasRisen (F.faults files.old) (F.faults files.new)) (HasRisen (O.faults out.old) (O.faults out.new)) (O.held out.old) (O.held out.new) result }
+    ensures { ReplaySays
+        (told_by (F.contents files.old) (record { licence = command.entry.licence.now; options = command.entry.options.now; script = command.entry.script.now }))
+        (HasRisen (F.faults files.old) (F.faults files.new))
+        (HasRisen (O.faults out.old) (O.faults out.new))
+        (O.held out.old) (O.held out.new) result }
 {
     let pool = match read_pool(alloc, files, command.licence) {
         Ok(pool) => pool,
@@ -83,8 +86,10 @@ fn replay<F: Files, O: Sink>(
 fn perform<F: Files, O: Sink>(alloc: Global, words: &[String], files: &mut F, out: &mut O) -> Status
     ensures usage { (result ≡ Status.Usage) ↔ (command_of (map string_bytes words.now) ≡ None) }
     ensures refused { result ≡ Status.Usage → O.held out.new ≡ O.held out.old }
-    ensures says { IfSome (command_of (map string_bytes words.now)) (λ names. ReplaySays (told_by (F.contents files.old) names)
-        (HasRisen (F.faults files.old) (F.faults files.new)) (HasRisen (O.faults out.old) (O.faults out.new)) (O.held out.old) (O.held out.new) result) }
+    ensures says { ForFiles (command_of (map string_bytes words.now)) (F.contents files.old) (λ told. ReplaySays told
+        (HasRisen (F.faults files.old) (F.faults files.new))
+        (HasRisen (O.faults out.old) (O.faults out.new))
+        (O.held out.old) (O.held out.new) result) }
 {
     match read_command(words) {
         None => Status::Usage,
@@ -108,29 +113,42 @@ pub fn tool<F: Files, O: Sink, E: Sink>(
     ensures usage { (result ≡ Status.Usage) ↔ (command_of (map string_bytes words.now) ≡ None) }
 
     // On Done out gained exactly the text of the three files.
-    ensures done { result ≡ Status.Done → IfSome (command_of (map string_bytes words.now)) (λ names. WritesReplay (told_by (F.contents files.old) names) (O.held out.old) (O.held out.new)) }
+    ensures done { result ≡ Status.Done
+        → ForFiles (command_of (map string_bytes words.now)) (F.contents files.old)
+        (λ told. WritesReplay told (O.held out.old) (O.held out.new)) }
 
     // On WriteFault out gained a front of that text, and on every other status nothing.
-    ensures written { result ≡ Status.WriteFault → IfSome (command_of (map string_bytes words.now)) (λ names. WritesFront (told_by (F.contents files.old) names) (O.held out.old) (O.held out.new)) }
+    ensures written { result ≡ Status.WriteFault
+        → ForFiles (command_of (map string_bytes words.now)) (F.contents files.old)
+        (λ told. WritesFront told (O.held out.old) (O.held out.new)) }
     ensures unwritten { result ≢ Status.Done → result ≢ Status.WriteFault → O.held out.new ≡ O.held out.old }
 
-    // Standard error gained exactly the line of the status, which is none on Done, or a front of it at a fault of its own.
-    ensures err_line { GainsLine (E.held err.old) (E.held err.new) (HasRisen (E.faults err.old) (E.faults err.new)) (line_of result) }
+    // Standard error gained exactly the line of the status, which is none on Done, or a front of it at a fault of its
+    // own.
+    ensures err_line { GainsLine (E.held err.old) (E.held err.new)
+        (HasRisen (E.faults err.old) (E.faults err.new)) (line_of result) }
 
     // A read fault comes only where the count of faults rose, at a file before which all were accepted.
-    ensures read_fault { (file : ℕ) → result ≡ Status.ReadFault file → HasRisen (F.faults files.old) (F.faults files.new) × IfSome (command_of (map string_bytes words.now)) (λ names. IsReached (told_by (F.contents files.old) names) file) }
+    ensures read_fault { (file : ℕ) → result ≡ Status.ReadFault file
+        → HasRisen (F.faults files.old) (F.faults files.new)
+        × ForFiles (command_of (map string_bytes words.now)) (F.contents files.old) (λ told. IsReached told file) }
 
     // A write fault comes only where the count of faults rose.
     ensures write_fault { result ≡ Status.WriteFault → HasRisen (O.faults out.old) (O.faults out.new) }
 
     // NotYet names the first file that was read and isn't in the first form, and it comes where there is one and neither
     // a read fault nor want of memory came before it.
-    ensures not_yet { (file : ℕ) → result ≡ Status.NotYet file → IfSome (command_of (map string_bytes words.now)) (λ names. IsFirstNotYet (told_by (F.contents files.old) names) file) }
-    ensures not_yet_comes { (file : ℕ) → IfSome (command_of (map string_bytes words.now)) (λ names. IsRefusedAt (told_by (F.contents files.old) names) file → ¬ HasRisen (F.faults files.old) (F.faults files.new)
+    ensures not_yet { (file : ℕ) → result ≡ Status.NotYet file
+        → ForFiles (command_of (map string_bytes words.now)) (F.contents files.old) (λ told. IsFirstNotYet told file) }
+    ensures not_yet_comes { (file : ℕ) → ForFiles (command_of (map string_bytes words.now)) (F.contents files.old)
+        (λ told. IsRefusedAt told file → ¬ HasRisen (F.faults files.old) (F.faults files.new)
         → (result ≡ Status.NotYet file) ⊎ (result ≡ Status.NoMemory)) }
 
     // Accepted words and files without a fault end in Done, unless memory is wanted.
-    ensures complete { IfSome (command_of (map string_bytes words.now)) (λ names. AreAccepted (told_by (F.contents files.old) names) → ¬ HasRisen (F.faults files.old) (F.faults files.new) → ¬ HasRisen (O.faults out.old) (O.faults out.new)
+    ensures complete { ForFiles (command_of (map string_bytes words.now)) (F.contents files.old)
+        (λ told. AreAccepted told
+        → ¬ HasRisen (F.faults files.old) (F.faults files.new)
+        → ¬ HasRisen (O.faults out.old) (O.faults out.new)
         → (result ≡ Status.Done) ⊎ (result ≡ Status.NoMemory)) }
 {
     let status = perform(alloc, words, files, out);
