@@ -8,3 +8,4 @@ pub mod Passes
 pub mod Sound
 pub mod Routes
 pub mod Faults
+pub mod NameSets

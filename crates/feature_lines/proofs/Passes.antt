@@ -12,7 +12,7 @@ use Rattle.lic_types.specs.declared.note.Note.{Note}
 use Rattle.lic_types.specs.declared.note.NoteKind.TheVariants.{SecondFeature, NodeLocked, NotServed}
 use Rattle.feature_lines.specs.Licence.{Contents, IsFaultOf, Judged, count_fault, counted, counted_in, fault_in, first_some, has_line, is_feature_of, is_second, licence_in, line_key, note_in, notes_of, pools_of, some_or, total, unless_fault, with_before}
 use Rattle.feature_lines.specs.Line.{at_most_65535, feature_of, granted, judged, keyword_of, or_fault, said_by, said_of, terms_of, with_word}
-use Rattle.feature_lines.specs.Steps.{Sofar, added, added_to, blank, counted_or_locked, noted, passed, raised, stepped, taken, with_pools}
+use Rattle.feature_lines.specs.Steps.{Sofar, added, added_to, blank, counted_or_locked, has_name, noted, passed, raised, stepped, taken, with_name, with_pools}
 use Rattle.feature_lines.specs.declared.fault.LicenceFault.{LicenceFault}
 use Rattle.feature_lines.specs.declared.fault.LicenceFault.TheVariants.{BadCount, TooManyPools}
 use Rattle.feature_lines.specs.declared.line.FeatureLine.{FeatureLine}
@@ -23,6 +23,7 @@ use Rattle.feature_lines.specs.declared.line.Terms.{Terms}
 use Rattle.feature_lines.specs.declared.pool.Pool.{Pool}
 use Rattle.feature_lines.proofs.Faults.{fault_too}
 use Rattle.feature_lines.proofs.Keys.{same_name_is}
+use Rattle.feature_lines.proofs.NameSets.{has_with}
 use Rattle.feature_lines.proofs.Sums.{no_total, none_of_key, one_of_key, pools_more, pools_new, told_push}
 
 -- The one pass comes to what the definition of a licence says.
@@ -42,7 +43,7 @@ AreSmall (line ∷ lines) = IsSmall line × AreSmall lines
 pub record IsKept (before : List Judged) (s : Sofar) : Type 0 where
   pub pools : s.pools ≡ pools_of (counted before)
   pub notes : s.notes ≡ notes_of before
-  pub features : (name : List ℕ) → list_any (same_name name) s.features ≡ list_any (is_feature_of name) before
+  pub features : (name : List ℕ) → has_name name s.features ≡ list_any (is_feature_of name) before
 
 -- a step says what the definition says of its line
 abbrev Says : List Judged → Judged → Result Sofar LicenceFault → Type 0
@@ -117,7 +118,7 @@ note_by before f second zero_count p q = ap (λ (b : Bool). note_when b (eqb f.c
 
 -- what is read of the names, once the line is taken
 abbrev KnowsNames : List Judged → Sofar → Type 0
-KnowsNames lines s = (name : List ℕ) → list_any (same_name name) s.features ≡ list_any (is_feature_of name) lines
+KnowsNames lines s = (name : List ℕ) → has_name name s.features ≡ list_any (is_feature_of name) lines
 
 summed : (before : List Judged) (s : Sofar) (f : FeatureLine) (o : Option LicenceFault) → count_fault (counted before) f ≡ o → is_second before f ≡ false → (eqb f.count 0) ≡ false
     → s.notes ≡ notes_of before → KnowsNames (before ++ Ok (Feature f) ∷ []) s → Says before (Ok (Feature f)) (with_pools s (unless_fault o (pools_of (counted before ++ f ∷ []))))
@@ -163,7 +164,7 @@ known_already before f name true is known =
 known_already before f name false is known = sym (or_none _)
 
 feature_when : (before : List Judged) (s : Sofar) (f : FeatureLine) (is_feature has : Bool) → f.is_feature ≡ is_feature → list_any (is_feature_of f.name) before ≡ has → IsKept before s → f.count ≤ 65535
-    → Says before (Ok (Feature f)) (cond is_feature (cond has (Ok (noted f.line SecondFeature s)) (counted_or_locked (record s { features = s.features ++ f.name ∷ [] }) f)) (counted_or_locked s f))
+    → Says before (Ok (Feature f)) (cond is_feature (cond has (Ok (noted f.line SecondFeature s)) (counted_or_locked (record s { features = with_name s.features f.name }) f)) (counted_or_locked s f))
 feature_when before s f true true p q kept small =
     let second : is_second before f ≡ true = ap (λ (b : Bool). b && list_any (is_feature_of f.name) before) p ∙ q in (
       fault_by before f true _ second refl,
@@ -175,8 +176,8 @@ feature_when before s f true true p q kept small =
     )
 feature_when before s f true false p q kept small =
     let first : is_second before f ≡ false = ap (λ (b : Bool). b && list_any (is_feature_of f.name) before) p ∙ q in
-    first_when before (record s { features = s.features ++ f.name ∷ [] }) f _ refl first small kept.pools kept.notes
-    (λ name. list_any-append (same_name name) s.features (f.name ∷ []) ∙ (ap (λ (b : Bool). b || (same_name name f.name || false)) (kept.features name) ∙ sym (names_push before f name true p)))
+    first_when before (record s { features = with_name s.features f.name }) f _ refl first small kept.pools kept.notes
+    (λ name. has_with name f.name s.features ∙ (ap (λ (b : Bool). b || (same_name name f.name || false)) (kept.features name) ∙ sym (names_push before f name true p)))
 feature_when before s f false has p q kept small =
     let first : is_second before f ≡ false = ap (λ (b : Bool). b && list_any (is_feature_of f.name) before) p in
     first_when before s f _ refl first small kept.pools kept.notes
@@ -184,7 +185,7 @@ feature_when before s f false has p q kept small =
 
 feature_says : (before : List Judged) (s : Sofar) (f : FeatureLine) → IsKept before s → f.count ≤ 65535 → Says before (Ok (Feature f)) (taken s f)
 feature_says before s f kept small =
-    subst (λ (b : Bool). Says before (Ok (Feature f)) (cond f.is_feature (cond b (Ok (noted f.line SecondFeature s)) (counted_or_locked (record s { features = s.features ++ f.name ∷ [] }) f)) (counted_or_locked s f))) (sym (kept.features f.name))
+    subst (λ (b : Bool). Says before (Ok (Feature f)) (cond f.is_feature (cond b (Ok (noted f.line SecondFeature s)) (counted_or_locked (record s { features = with_name s.features f.name }) f)) (counted_or_locked s f))) (sym (kept.features f.name))
     (feature_when before s f f.is_feature (list_any (is_feature_of f.name) before) refl refl kept small)
 
 -- ---- any line

@@ -1,15 +1,16 @@
 ghost use Rattle.std.specs.Prelude.{◌≡◌, ◌<◌, length, IfErr, IfSome, OnOk, Ok};
 ghost use Rattle.feature_lines.specs.declared.fault.LicenceFault.TheVariants.{NoMemory};
-ghost use Rattle.std.specs.List.{list_any, position_from};
-ghost use Rattle.lic_types.specs.Groups.{same_name};
+ghost use Rattle.std.specs.List.{position_from};
 ghost use Rattle.feature_lines.specs.Draft.{sofar_of};
 ghost use Rattle.feature_lines.specs.Licence.{IsFaultOf, date_of, line_key, pool_key, pool_with, same_date, same_key};
 ghost use Rattle.feature_lines.specs.Steps.{added, counted_or_locked, noted, stepped, taken};
 
 use crate::fault::LicenceFault;
 use crate::line::{FeatureLine, Said};
+use crate::names::{FeatureName, add_name};
 use crate::pool::Pool;
 use lic_types::{Expiry, Name, Note, NoteKind};
+use std::collections::BTreeSet;
 
 /// The most pools that a licence may have.
 const MOST_POOLS: usize = 64;
@@ -23,7 +24,7 @@ pub struct Draft {
     pub pools: Vec<Pool>,
     pub notes: Vec<Note>,
     /// The names of the FEATURE lines so far, each once.
-    pub features: Vec<Name>,
+    pub features: BTreeSet<FeatureName>,
 }
 
 /// Whether two expiries are of the same date, or are both never.
@@ -112,22 +113,16 @@ fn count_or_lock(draft: &mut Draft, feature: &FeatureLine) -> Result<(), Licence
     add(&mut draft.pools, feature)
 }
 
-fn has_name(names: &[Name], name: &Name) -> bool
-    ensures { result ≡ list_any (same_name name.now) names.now }
-{
-    names.iter().any(|other| name == other)
-}
-
 /// Takes a FEATURE or INCREMENT line.
 fn take_feature(draft: &mut Draft, feature: &FeatureLine) -> Result<(), LicenceFault>
     ensures ok { OnOk result (taken (sofar_of draft.old) feature.now ≡ Ok (sofar_of draft.new)) }
     ensures err { IfErr result (IsFaultOf (taken (sofar_of draft.old) feature.now)) }
 {
     if feature.is_feature {
-        if has_name(draft.features.as_slice(), &feature.name) {
+        let is_first = add_name(&mut draft.features, feature.name)?;
+        if !is_first {
             return note(draft, feature.line, NoteKind::SecondFeature);
         }
-        draft.features.push(feature.name)?;
     }
     count_or_lock(draft, feature)
 }

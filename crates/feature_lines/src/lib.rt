@@ -6,6 +6,7 @@ mod draft;
 mod fault;
 mod licence;
 mod line;
+mod names;
 mod pool;
 mod route;
 mod words;

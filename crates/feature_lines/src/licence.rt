@@ -16,6 +16,7 @@ use crate::route::{Found, route};
 use lic_text::{Line, TextFault, lines};
 use lic_types::{Name, Note, Version};
 use std::alloc::Global;
+use std::collections::BTreeSet;
 use std::marker::Model;
 
 /// A licence file that was read: its pools and its notes.
@@ -83,7 +84,7 @@ pub fn read_licence(alloc: Global, file: &[u8]) -> Result<Licence, LicenceFault>
     let mut draft = Draft {
         pools: Vec::new(alloc),
         notes: Vec::new(alloc),
-        features: Vec::new(alloc),
+        features: BTreeSet::new(alloc),
     };
     for line in lines(file) {
         take_line(&mut draft, line)?;

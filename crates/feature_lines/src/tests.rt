@@ -212,7 +212,7 @@ fn has(licence: &Licence, pools: usize, count: u32, notes: &[(u32, NoteKind)]) -
 
 #[test]
 fn lines_that_grant_nothing(rt: HostRuntime) -> Result<(), Fail> {
-    let rows: [(&[u8], usize, u32, &[(u32, NoteKind)]); 11] = [
+    let rows: [(&[u8], usize, u32, &[(u32, NoteKind)]); 13] = [
         (b"", 0, 0, &[]),
         (b"server a\nVendor b\nDAEMON c\nuse_server d\n", 0, 0, &[]),
         (
@@ -269,11 +269,82 @@ fn lines_that_grant_nothing(rt: HostRuntime) -> Result<(), Fail> {
             65535,
             &[],
         ),
+        (b"FEATURE a v 1 permanent 65535", 1, 65535, &[]),
+        // A name that comes again behind names that are above it and below it.
+        (
+            b"FEATURE m v 1 permanent 1\nFEATURE z v 1 permanent 1\nFEATURE a v 1 permanent 1\n\
+            FEATURE mm v 1 permanent 1\nFEATURE m v 1 permanent 1\nFEATURE mm v 1 permanent 1",
+            4,
+            1,
+            &[(5, NoteKind::SecondFeature), (6, NoteKind::SecondFeature)],
+        ),
     ];
     for (file, pools, count, notes) in rows {
-        assert!(rt; file.len() < 100);
+        assert!(rt; file.len() < 200);
         let licence = read_licence(rt.alloc(), file)?;
         assert!(rt; has(&licence, pools, count, notes));
+    }
+    Ok(())
+}
+
+/// A front, a letter this many times, and an end.
+fn lengthened(alloc: Global, front: &[u8], letters: usize, end: &[u8]) -> Result<Vec<u8>, Fail> {
+    let mut file = front.to_vec(alloc)?;
+    for _ in 0..letters {
+        file.push(b'x')?;
+    }
+    file.extend_from_slice(end)?;
+    Ok(file)
+}
+
+/// 8,192 bytes are a line, and 8,193 are too many: on the first line, and behind a good one.
+#[test]
+fn lines_at_their_limit(rt: HostRuntime) -> Result<(), Fail> {
+    let rows: [(&[u8], usize, Option<LicenceFault>); 4] = [
+        (b"FEATURE a v 1 permanent 1 ", 8166, None),
+        (
+            b"FEATURE a v 1 permanent 1 ",
+            8167,
+            Some(LicenceFault::Line(TextFault::LineTooLong(1))),
+        ),
+        (b"USE_SERVER\nFEATURE a v 1 permanent 1 ", 8166, None),
+        (
+            b"USE_SERVER\nFEATURE a v 1 permanent 1 ",
+            8167,
+            Some(LicenceFault::Line(TextFault::LineTooLong(2))),
+        ),
+    ];
+    for (front, letters, fault) in rows {
+        let file = lengthened(rt.alloc(), front, letters, b"\n")?;
+        assert!(rt; file.len() < 10000);
+        assert_eq!(rt; fault_of(rt.alloc(), file.as_slice()), fault);
+    }
+    Ok(())
+}
+
+/// Names of 64 bytes are names, and those of 65 aren't.
+#[test]
+fn names_at_their_limit(rt: HostRuntime) -> Result<(), Fail> {
+    let rows: [(&[u8], usize, &[u8], Option<LicenceFault>); 4] = [
+        (b"FEATURE ", 64, b" v 1 permanent 1", None),
+        (
+            b"FEATURE ",
+            65,
+            b" v 1 permanent 1",
+            Some(LicenceFault::BadWord(1, 2)),
+        ),
+        (b"INCREMENT a ", 64, b" 1 permanent 1", None),
+        (
+            b"INCREMENT a ",
+            65,
+            b" 1 permanent 1",
+            Some(LicenceFault::BadWord(1, 3)),
+        ),
+    ];
+    for (front, letters, end, fault) in rows {
+        let file = lengthened(rt.alloc(), front, letters, end)?;
+        assert!(rt; file.len() < 200);
+        assert_eq!(rt; fault_of(rt.alloc(), file.as_slice()), fault);
     }
     Ok(())
 }

@@ -1,3 +1,4 @@
+pub mod Days
 pub mod Groups
 pub mod Name
 pub mod NameRoom

@@ -8,6 +8,7 @@ mod group;
 mod memory;
 mod name;
 mod note;
+mod printed_day;
 mod version;
 
 pub use client::{Client, Rule, RuleLine, Who, WhoKind};

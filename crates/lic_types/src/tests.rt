@@ -1,4 +1,6 @@
-use crate::{Client, Group, Name, NameFault, Version};
+ghost use Rattle.std.specs.Prelude.{◌≤◌};
+
+use crate::{Client, Day, Group, Name, NameFault, Version};
 use std::process::Abort;
 use std::test::Fail;
 
@@ -116,4 +118,34 @@ fn a_name_is_shown_as_its_bytes(rt: HostRuntime) -> Result<(), Fail> {
     let shown = format!(in rt.alloc(); "{name}")?;
     assert!(rt; shown.as_str() == "ann-1~");
     Ok(())
+}
+
+fn civil_day(year: u16, month: u8, day: u8, number: i32) -> Day
+    requires first_month { 1 ≤ month }
+    requires last_month { month ≤ 12 }
+    requires first_day { 1 ≤ day }
+    requires last_day { day ≤ 31 }
+    requires last_year { year ≤ 9999 }
+{
+    Day {
+        year,
+        month,
+        day,
+        number,
+    }
+}
+
+#[test]
+fn days_as_they_are_printed(rt: HostRuntime) {
+    let rows: [(Day, &[u8]); 4] = [
+        (civil_day(1, 1, 1, -719_162), b"1-jan-0001"),
+        (civil_day(824, 5, 30, -418_418), b"30-may-0824"),
+        (civil_day(2026, 12, 31, 20_818), b"31-dec-2026"),
+        (civil_day(9999, 9, 9, 2_932_783), b"9-sep-9999"),
+    ];
+    for (day, text) in rows {
+        let mut room = [b'?'; 16];
+        let length = day.put(&mut room);
+        assert!(rt; &room[..length] == text);
+    }
 }

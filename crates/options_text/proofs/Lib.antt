@@ -4,3 +4,12 @@ pub mod Rising
 pub mod Sorts
 pub mod Spaces
 pub mod Merges
+pub mod Closings
+pub mod Tokens
+pub mod Widths
+pub mod Written
+pub mod Spellings
+pub mod Words
+pub mod Forms
+pub mod ReadsBack
+pub mod NameSets

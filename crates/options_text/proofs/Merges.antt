@@ -17,12 +17,12 @@ use Rattle.options_text.specs.declared.writing.Next.{Next}
 use Rattle.options_text.specs.declared.writing.Next.TheVariants.{OfGroup, OfRule, OfNote, OfNone}
 
 -- no entry is of an earlier line than this
-abbrev AtLeast : ℕ → List Entry → Type 0
+abbrev pub AtLeast : ℕ → List Entry → Type 0
 AtLeast n [] = Unit {0}
 AtLeast n (e ∷ es) = (n ≤ line_of e) × AtLeast n es
 
 -- each entry is of a later line than this
-abbrev Beyond : ℕ → List Entry → Type 0
+abbrev pub Beyond : ℕ → List Entry → Type 0
 Beyond n [] = Unit {0}
 Beyond n (e ∷ es) = (n < line_of e) × Beyond n es
 
@@ -46,36 +46,36 @@ insert_behind : (x e : Entry) (es : List Entry) → line_of e < line_of x → in
 insert_behind x e es h = ap (λ b. cond b (x ∷ e ∷ es) (e ∷ insert_entry x es)) (lt-leb (line_of x) (line_of e) h)
 
 -- an entry with later ones in front of it and no earlier ones behind it is the first in line order
-first_of : (xs : List Entry) (e : Entry) (ys : List Entry) → Beyond (line_of e) xs → AtLeast (line_of e) ys → in_line_order (xs ++ e ∷ ys) ≡ e ∷ in_line_order (xs ++ ys)
+pub first_of : (xs : List Entry) (e : Entry) (ys : List Entry) → Beyond (line_of e) xs → AtLeast (line_of e) ys → in_line_order (xs ++ e ∷ ys) ≡ e ∷ in_line_order (xs ++ ys)
 first_of [] e ys b h = insert_first e (in_line_order ys) (order_keeps (line_of e) ys h)
 first_of (x ∷ xs) e ys b h = ap (insert_entry x) (first_of xs e ys b.1 h) ∙ insert_behind x e (in_line_order (xs ++ ys)) b.0
 
-least_both : (n : ℕ) (xs ys : List Entry) → AtLeast n xs → AtLeast n ys → AtLeast n (xs ++ ys)
+pub least_both : (n : ℕ) (xs ys : List Entry) → AtLeast n xs → AtLeast n ys → AtLeast n (xs ++ ys)
 least_both n [] ys hx hy = hy
 least_both n (x ∷ xs) ys hx hy = (hx.0, least_both n xs ys hx.1 hy)
 
-beyond_both : (n : ℕ) (xs ys : List Entry) → Beyond n xs → Beyond n ys → Beyond n (xs ++ ys)
+pub beyond_both : (n : ℕ) (xs ys : List Entry) → Beyond n xs → Beyond n ys → Beyond n (xs ++ ys)
 beyond_both n [] ys hx hy = hy
 beyond_both n (x ∷ xs) ys hx hy = (hx.0, beyond_both n xs ys hx.1 hy)
 
-least_groups : (n m : ℕ) (gs : List GroupLine) → n ≤ m → Rises m (map (λ (g : GroupLine). g.line) gs) → AtLeast n (map Lists gs)
+pub least_groups : (n m : ℕ) (gs : List GroupLine) → n ≤ m → Rises m (map (λ (g : GroupLine). g.line) gs) → AtLeast n (map Lists gs)
 least_groups n m [] low r = tt
 least_groups n m (g ∷ gs) low r = (omega (arith, r.0), least_groups n g.line gs (omega (arith, r.0)) r.1)
 
-least_rules : (n m : ℕ) (rs : List RuleLine) → n ≤ m → Rises m (map (λ (l : RuleLine). l.line) rs) → AtLeast n (map Rules rs)
+pub least_rules : (n m : ℕ) (rs : List RuleLine) → n ≤ m → Rises m (map (λ (l : RuleLine). l.line) rs) → AtLeast n (map Rules rs)
 least_rules n m [] low r = tt
 least_rules n m (l ∷ ls) low r = (omega (arith, r.0), least_rules n l.line ls (omega (arith, r.0)) r.1)
 
-least_notes : (n m : ℕ) (ns : List Note) (logs : List LogKeyword) → n ≤ m → Rises m (map (λ (x : Note). x.line) ns) → AtLeast n (passes ns logs)
+pub least_notes : (n m : ℕ) (ns : List Note) (logs : List LogKeyword) → n ≤ m → Rises m (map (λ (x : Note). x.line) ns) → AtLeast n (passes ns logs)
 least_notes n m [] logs low r = tt
 least_notes n m (x ∷ xs) [] low r = tt
 least_notes n m (x ∷ xs) (log ∷ logs) low r = (omega (arith, r.0), least_notes n x.line xs logs (omega (arith, r.0)) r.1)
 
-beyond_groups : (n m : ℕ) (gs : List GroupLine) → n ≤ m → Rises m (map (λ (g : GroupLine). g.line) gs) → Beyond n (map Lists gs)
+pub beyond_groups : (n m : ℕ) (gs : List GroupLine) → n ≤ m → Rises m (map (λ (g : GroupLine). g.line) gs) → Beyond n (map Lists gs)
 beyond_groups n m [] low r = tt
 beyond_groups n m (g ∷ gs) low r = (omega (arith, r.0), beyond_groups n g.line gs (omega (arith, r.0)) r.1)
 
-beyond_rules : (n m : ℕ) (rs : List RuleLine) → n ≤ m → Rises m (map (λ (l : RuleLine). l.line) rs) → Beyond n (map Rules rs)
+pub beyond_rules : (n m : ℕ) (rs : List RuleLine) → n ≤ m → Rises m (map (λ (l : RuleLine). l.line) rs) → Beyond n (map Rules rs)
 beyond_rules n m [] low r = tt
 beyond_rules n m (l ∷ ls) low r = (omega (arith, r.0), beyond_rules n l.line ls (omega (arith, r.0)) r.1)
 

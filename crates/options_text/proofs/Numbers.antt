@@ -74,7 +74,7 @@ unfolding times_all_of
 times_all_line line [] = tt
 times_all_line line (seconds ∷ others) = if_ok_then (IsAt line) (number_below line (2 ^ 40) seconds) _ (λ n. refl)
 
-abbrev IsOf : ℕ → Entry → Type 0
+abbrev pub IsOf : ℕ → Entry → Type 0
 IsOf line entry = line_of entry ≡ line
 
 form_line : (line : ℕ) (keyword : Keyword) (words : List (List ℕ)) → IfOk (form_of line keyword words) (IsOf line)
@@ -86,7 +86,7 @@ form_line line (Times span) words = if_ok_with (IsAt line) (IsOf line) (times_of
 form_line line TimesAll words = if_ok_with (IsAt line) (IsOf line) (times_all_of line words) _ (times_all_line line words) (λ r is. is)
 form_line line (Logs log) words = refl
 
-entry_line : (line : ℕ) (words : List (List ℕ)) → IfOk (entry_of line words) (IsOf line)
+pub entry_line : (line : ℕ) (words : List (List ℕ)) → IfOk (entry_of line words) (IsOf line)
 unfolding entry_of
 entry_line line [] = tt
 entry_line line (word ∷ words) = if_ok_then (IsOf line) (unless_none _ (keyword_of word)) _ (λ keyword. form_line line keyword words)

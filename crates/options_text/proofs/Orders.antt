@@ -1,5 +1,6 @@
 use Rattle.std.proofs.Common.{◌≡◌, ℕ, ◌<◌, ◌≤◌, ◌&&◌, Bool, true, false, List, [], ◌∷◌, length, map, Option, None, Some, Result, Ok, Err, IfOk, refl, sym, ap, subst, ◌∙◌, arith}
 use Rattle.std.specs.List.{filter_map, list_all}
+use Rattle.std.specs.Option.{option_map}
 use Rattle.lic_text.specs.Lines.{NumbersRise, lines_of}
 use Rattle.lic_types.specs.Groups.{GroupLine}
 use Rattle.lic_types.specs.declared.client.RuleLine.{RuleLine}
@@ -9,24 +10,26 @@ use Rattle.options_text.specs.Entries.{entries_after, is_fit, is_within_limits, 
 use Rattle.options_text.specs.Options.{IsOrderly, OptionsFile, first_untold, group_in, log_in, note_in, options_of, rule_in, sorted, unless_untold, with_groups_told}
 use Rattle.options_text.specs.declared.entry.Entry.{Entry}
 use Rattle.options_text.specs.declared.entry.Entry.TheVariants.{Lists, Rules, Passes}
+use Rattle.options_text.specs.Names.{line_untold}
 use Rattle.options_text.specs.declared.fault.OptionsFault.{OptionsFault}
+use Rattle.options_text.specs.declared.fault.OptionsFault.TheVariants.{UnknownGroup}
 use Rattle.options_text.proofs.Numbers.{entries_rise}
 use Rattle.options_text.specs.Rises.{Rises}
 use Rattle.options_text.proofs.Rising.{increasing, rises_from_below}
 
-groups_rise : (n : ℕ) (entries : List Entry) → Rises n (map line_of entries) → Rises n (map (λ (g : GroupLine). g.line) (filter_map group_in entries))
+pub groups_rise : (n : ℕ) (entries : List Entry) → Rises n (map line_of entries) → Rises n (map (λ (g : GroupLine). g.line) (filter_map group_in entries))
 groups_rise n [] r = tt
 groups_rise n (Lists group ∷ entries) r = (r.0, groups_rise group.line entries r.1)
 groups_rise n (Rules rule ∷ entries) r = rises_from_below n rule.line _ (omega (arith, r.0)) (groups_rise rule.line entries r.1)
 groups_rise n (Passes note log ∷ entries) r = rises_from_below n note.line _ (omega (arith, r.0)) (groups_rise note.line entries r.1)
 
-rules_rise : (n : ℕ) (entries : List Entry) → Rises n (map line_of entries) → Rises n (map (λ (l : RuleLine). l.line) (filter_map rule_in entries))
+pub rules_rise : (n : ℕ) (entries : List Entry) → Rises n (map line_of entries) → Rises n (map (λ (l : RuleLine). l.line) (filter_map rule_in entries))
 rules_rise n [] r = tt
 rules_rise n (Lists group ∷ entries) r = rises_from_below n group.line _ (omega (arith, r.0)) (rules_rise group.line entries r.1)
 rules_rise n (Rules rule ∷ entries) r = (r.0, rules_rise rule.line entries r.1)
 rules_rise n (Passes note log ∷ entries) r = rises_from_below n note.line _ (omega (arith, r.0)) (rules_rise note.line entries r.1)
 
-notes_rise : (n : ℕ) (entries : List Entry) → Rises n (map line_of entries) → Rises n (map (λ (m : Note). m.line) (filter_map note_in entries))
+pub notes_rise : (n : ℕ) (entries : List Entry) → Rises n (map line_of entries) → Rises n (map (λ (m : Note). m.line) (filter_map note_in entries))
 notes_rise n [] r = tt
 notes_rise n (Lists group ∷ entries) r = rises_from_below n group.line _ (omega (arith, r.0)) (notes_rise group.line entries r.1)
 notes_rise n (Rules rule ∷ entries) r = rises_from_below n rule.line _ (omega (arith, r.0)) (notes_rise rule.line entries r.1)
@@ -67,8 +70,19 @@ orderly file entries options rise is fit same =
     subst P is (entries_rise 0 [] (lines_of file) (rise file)))
     in subst IsOrderly (sym same) (orderly_if entries rises fit)
 
--- the answer of a file whose entries are these, where this is what its rules leave untold
-pub whole : (file : List ℕ) (entries : List Entry) (options : OptionsFile) (found : Option RuleLine)
-    → entries_after [] (lines_of file) ≡ Ok entries → options ≡ sorted entries → found ≡ first_untold options → unless_untold options found ≡ options_of file
-whole file entries options found is same finds =
-    ap (unless_untold options) finds ∙ (ap with_groups_told same ∙ ap (λ (r : Result (List Entry) OptionsFault). r >>= (λ es. with_groups_told (sorted es))) (sym is))
+-- the options, unless there is such a line
+abbrev unless_line : OptionsFile → Option ℕ → Result OptionsFile OptionsFault
+unless_line options None = Ok options
+unless_line options (Some line) = Err (UnknownGroup line)
+
+line_or_rule : (options : OptionsFile) (found : Option RuleLine) → unless_line options (option_map (λ (rule : RuleLine). rule.line) found) ≡ unless_untold options found
+line_or_rule options None = refl
+line_or_rule options (Some rule) = refl
+
+-- the answer of a file whose entries are these, where this is the line of what its rules leave untold
+pub whole : (file : List ℕ) (entries : List Entry) (options : OptionsFile) (line : Option ℕ)
+    → entries_after [] (lines_of file) ≡ Ok entries → options ≡ sorted entries → line ≡ line_untold options → unless_line options line ≡ options_of file
+whole file entries options line is same finds =
+    ap (unless_line options) finds
+    ∙ (line_or_rule options (first_untold options)
+    ∙ (ap with_groups_told same ∙ ap (λ (r : Result (List Entry) OptionsFault). r >>= (λ es. with_groups_told (sorted es))) (sym is)))

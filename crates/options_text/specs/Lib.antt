@@ -8,3 +8,5 @@ pub mod Texts
 pub mod Canonical
 pub mod Merging
 pub mod Rises
+pub mod Laws
+pub mod Names

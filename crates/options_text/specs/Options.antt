@@ -111,3 +111,9 @@ pub record IsOrderly (options : OptionsFile) : Type 0 where
   pub notes_rise : IsStrictlyIncreasing (map (λ (n : Note). n.line) options.notes)
   pub within : list_all (λ (l : RuleLine). is_within_limits l.rule) options.lines ≡ true
   pub paired : length options.logs ≡ length options.notes
+
+-- options that a file says
+pub record IsSaid (options : OptionsFile) : Type 0 where
+  pub file : List ℕ
+  pub says : options_of file ≡ Ok options
+  pub orderly : IsOrderly options

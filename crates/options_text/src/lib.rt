@@ -5,6 +5,8 @@ mod entry;
 mod fault;
 mod form;
 mod keyword;
+mod laws;
+mod names;
 mod options;
 mod parts;
 mod reading;
@@ -14,6 +16,7 @@ mod writing;
 
 pub use fault::OptionsFault;
 pub use keyword::LogKeyword;
+pub use laws::{canonical_text_reads_back, canonical_text_stays};
 pub use lic_types::Group;
 pub use options::{Options, read_options, write_options};
 

@@ -1,4 +1,4 @@
-ghost use Rattle.std.specs.Prelude.{◌≡◌, ◌≢◌, ◌<◌, ◌≤◌, ◌^◌, ◌==◌, ℕ, Err, IfOk, map, count_by, length, true};
+ghost use Rattle.std.specs.Prelude.{◌≡◌, ◌≢◌, ◌<◌, ◌≤◌, ◌^◌, ◌==◌, ℕ, Ok, Err, IfOk, map, count_by, length, true};
 ghost use Rattle.std.specs.List.{list_all};
 ghost use Rattle.std.specs.List.Sorted.{IsStrictlyIncreasing};
 ghost use Rattle.options_text.specs.Answers.{IsAnswer};
@@ -30,13 +30,13 @@ pub struct Options {
 }
 
 impl Model for Options {
-    ghost use Rattle.options_text.specs.Options.{IsOrderly, OptionsFile};
+    ghost use Rattle.options_text.specs.Options.{IsSaid, OptionsFile};
 
     ghost Value = { OptionsFile };
 
     ghost view = { λ o. record { groups = o.groups.items; lines = o.lines.items; notes = o.notes.items; logs = o.logs.items } };
 
-    ghost invariant = { λ o. IsOrderly (record { groups = o.groups.items; lines = o.lines.items; notes = o.notes.items; logs = o.logs.items }) };
+    ghost invariant = { λ o. IsSaid (record { groups = o.groups.items; lines = o.lines.items; notes = o.notes.items; logs = o.logs.items }) };
 }
 
 impl Options {
@@ -77,9 +77,10 @@ fn read_parts(alloc: Global, file: &[u8]) -> Result<Parts, OptionsFault>
     numbers_rise();
     let entries = read_entries(alloc, file)?;
     let parts = sort(alloc, entries)?;
-    match first_untold(&parts) {
+    let untold = first_untold(alloc, &parts)?;
+    match untold {
         None => Ok(parts),
-        Some(rule) => Err(OptionsFault::UnknownGroup(rule.line)),
+        Some(line) => Err(OptionsFault::UnknownGroup(line)),
     }
 }
 
@@ -125,8 +126,11 @@ pub fn read_options(alloc: Global, file: &[u8]) -> Result<Options, OptionsFault>
 /// Words have one space between, and one space more stands behind a last word that ends in a backslash, so that the line
 /// isn't continued. Keywords and types are in capitals, numbers without leading zeros; REPORTLOG, DEBUGLOG and NOLOG
 /// stand alone. Each line ends in LF. This form is this project's own.
+///
+/// `read_options` of the text gives equal options, so that writing those gives the same text.
 pub fn write_options(alloc: Global, options: &Options) -> Result<Vec<u8>, NoMemory>
-    ensures { IfOk result (λ text. text.items ≡ canonical options.now) }
+    ensures text { IfOk result (λ text. text.items ≡ canonical options.now) }
+    ensures reads_back { IfOk result (λ text. options_of text.items ≡ Ok options.now) }
 {
     let left = Left {
         groups: options.groups.as_slice(),

@@ -118,6 +118,93 @@ fn lines_at_their_limit(rt: HostRuntime) -> Result<(), Fail> {
     Ok(())
 }
 
+// A front, a letter this many times, and an end.
+fn lengthened(
+    rt: &(impl Abort + AllocGlobal),
+    front: &[u8],
+    letters: usize,
+    end: &[u8],
+) -> Result<Vec<u8>, Fail> {
+    let mut file = front.to_vec(rt.alloc())?;
+    let middle = times(rt, b"x", letters)?;
+    file.extend_from_slice(middle.as_slice())?;
+    file.extend_from_slice(end)?;
+    assert!(rt; file.len() < 10_000);
+    Ok(file)
+}
+
+// 8,192 bytes are a line, and 8,193 are too many: on the first line, and behind a good one.
+#[test]
+fn bytes_of_a_line_at_their_limit(rt: HostRuntime) -> Result<(), Fail> {
+    let rows: [(&[u8], usize, Option<OptionsFault>); 4] = [
+        (b"NOLOG ", 8186, None),
+        (
+            b"NOLOG ",
+            8187,
+            Some(OptionsFault::Line(TextFault::LineTooLong(1))),
+        ),
+        (b"GROUP g ann\nNOLOG ", 8186, None),
+        (
+            b"GROUP g ann\nNOLOG ",
+            8187,
+            Some(OptionsFault::Line(TextFault::LineTooLong(2))),
+        ),
+    ];
+    for (front, letters, fault) in rows {
+        let file = lengthened(&rt, front, letters, b"\n")?;
+        assert!(rt; file.len() < 10_000);
+        assert_eq!(rt; fault_of(rt.alloc(), file.as_slice()), fault);
+    }
+    Ok(())
+}
+
+// Names of 64 bytes are names, and those of 65 aren't.
+#[test]
+fn names_at_their_limit(rt: HostRuntime) -> Result<(), Fail> {
+    let rows: [(&[u8], &[u8]); 6] = [
+        (b"GROUP ", b" ann"),
+        (b"HOST_GROUP h h1 ", b""),
+        (b"EXCLUDE ", b" USER ann"),
+        (b"EXCLUDEALL USER ", b""),
+        (b"MAX 1 edit HOST ", b""),
+        (b"LINGER ", b" 7"),
+    ];
+    for (front, end) in rows {
+        let file = lengthened(&rt, front, 64, end)?;
+        assert!(rt; file.len() < 10_000);
+        assert_eq!(rt; fault_of(rt.alloc(), file.as_slice()), None);
+        let file = lengthened(&rt, front, 65, end)?;
+        assert!(rt; file.len() < 10_000);
+        assert_eq!(rt;
+            fault_of(rt.alloc(), file.as_slice()),
+            Some(OptionsFault::BadName(1))
+        );
+    }
+    Ok(())
+}
+
+// 65,535 and 2^40 - 1 are numbers of a rule, and one more is none.
+#[test]
+fn numbers_at_their_limit(rt: HostRuntime) {
+    let bad = Some(OptionsFault::BadNumber(1));
+    let rows: [(&[u8], Option<OptionsFault>); 10] = [
+        (b"MAX 65535 edit USER ann", None),
+        (b"MAX 65536 edit USER ann", bad),
+        (b"RESERVE 65535 edit USER ann", None),
+        (b"RESERVE 65536 edit USER ann", bad),
+        (b"LINGER edit 1099511627775", None),
+        (b"LINGER edit 1099511627776", bad),
+        (b"TIMEOUT edit 1099511627775", None),
+        (b"TIMEOUT edit 1099511627776", bad),
+        (b"TIMEOUTALL 1099511627775", None),
+        (b"TIMEOUTALL 1099511627776", bad),
+    ];
+    for (file, fault) in rows {
+        assert!(rt; file.len() < 100);
+        assert_eq!(rt; fault_of(rt.alloc(), file), fault);
+    }
+}
+
 // Sixteen lines of 4,092 members, and one of the rest.
 #[test]
 fn members_at_their_limit(rt: HostRuntime) -> Result<(), Fail> {
@@ -255,6 +342,17 @@ fn canonical_texts(rt: HostRuntime) -> Result<(), Fail> {
         check_text(&rt, file, text)?;
     }
     Ok(())
+}
+
+// A line of 8,192 bytes whose last word ends in a backslash is written as long as it is.
+#[test]
+fn longest_line_is_read_back(rt: HostRuntime) -> Result<(), Fail> {
+    let mut file = b"GROUP g".to_vec(rt.alloc())?;
+    let members = times(&rt, b" a", 4091)?;
+    file.extend_from_slice(members.as_slice())?;
+    file.extend_from_slice(b" \\ \n")?;
+    assert_eq!(rt; file.len(), 8193);
+    check_text(&rt, file.as_slice(), file.as_slice())
 }
 
 const SITE: &[u8] = b"# Options for acme\nREPORTLOG +/var/log/acme.rl\nGROUP design ann bob cy\n\
