@@ -12,3 +12,7 @@ pub mod Cuts
 pub mod Orders
 pub mod Frees
 pub mod Standings
+pub mod Replies
+pub mod Denials
+pub mod Positions
+pub mod Sayings

@@ -44,7 +44,7 @@ gone_step : {X : Type 0} (t : X → Bool) (x : X) (xs : List X) (b : Bool) → t
 gone_step t x xs true e h = rw e h
 gone_step t x xs false e h = rw e (count-cons t x (filter (λ y. not (t y)) xs) ∙ rw e (omega (arith, h)))
 
-none_left : {X : Type 0} (t : X → Bool) (xs : List X) → count_by t (filter (λ y. not (t y)) xs) ≡ 0
+pub none_left : {X : Type 0} (t : X → Bool) (xs : List X) → count_by t (filter (λ y. not (t y)) xs) ≡ 0
 none_left t [] = refl
 none_left t (x ∷ xs) = gone_step t x xs (t x) refl (none_left t xs)
 
@@ -53,7 +53,7 @@ with_step t h g gs true c e k one none f = rw (e, one) refl
 with_step t h g gs false true e k one none f = let never : Some g ≡ None = rw k at none in cc
 with_step t h g gs false false e k one none f = rw (e, k) (f (rw k at none))
 
-find_with : (t : Holder → Bool) (h : Holder) (hs : List Holder) → t h ≡ true → find t hs ≡ None → find t (with_holder h hs) ≡ Some h
+pub find_with : (t : Holder → Bool) (h : Holder) (hs : List Holder) → t h ≡ true → find t hs ≡ None → find t (with_holder h hs) ≡ Some h
 find_with t h [] one none = rw one refl
 find_with t h (g ∷ gs) one none = with_step t h g gs (ltb h.party g.party) (t g) refl refl one none (find_with t h gs one)
 
@@ -62,13 +62,13 @@ told_same true now p h = refl
 told_same false now p h = refl
 
 -- the party is told
-found_told : (s : State) (h : Holder) → find (is_holder h.party) s.holders ≡ Some h → find (is_holder h.party) (told s h.party).holders ≡ Some (told_if true s.now h)
+pub found_told : (s : State) (h : Holder) → find (is_holder h.party) s.holders ≡ Some h → find (is_holder h.party) (told s h.party).holders ≡ Some (told_if true s.now h)
 found_told s h e =
     find_map (is_holder h.party) (λ (x : Holder). told_if (is_holder h.party x) s.now x) s.holders h (λ x. told_same (is_holder h.party x) s.now h.party x) e
     ∙ ap (λ (b : Bool). Some (told_if b s.now h)) (eq-eqb h.party h.party refl)
 
 -- nothing is left of a holder that goes
-released_none : (r : Rules) (s : State) (h : Holder) → find (is_holder h.party) s.holders ≡ Some h → IsKept r s → entries (released s h.party) h.party ≡ 0
+pub released_none : (r : Rules) (s : State) (h : Holder) → find (is_holder h.party) s.holders ≡ Some h → IsKept r s → entries (released s h.party) h.party ≡ 0
 released_none r s h e k = omega (arith, none_left (is_holder h.party) s.holders, found_one (is_holder h.party) s.holders h e, k.single h.party)
 
 own_left : (r : Rules) (s : State) (h : Holder) (b : Bool) → ltb 0 r.linger && ltb (length s.lingering) most_lingering ≡ b → find (is_holder h.party) s.holders ≡ Some h → IsKept r s → Agrees (Some (left r s h).0) (left r s h).1 h.party
@@ -102,7 +102,7 @@ own_untold r s h kind.Quit e t k n = agree_none (Some reply.Returned) (released 
 own_untold r s h kind.Count e t k n = agree_untold (Some (to_untold r s h kind.Count).0) s h.party h e t refl (k.single h.party)
 own_untold r s h (kind.Reread m) e t k n = let never : Some m ≡ None = n in cc
 
-unqueued_none : (s : State) (party : ℕ) → find (is_holder party) s.holders ≡ None → entries (unqueued s party) party ≡ 0
+pub unqueued_none : (s : State) (party : ℕ) → find (is_holder party) s.holders ≡ None → entries (unqueued s party) party ≡ 0
 unqueued_none s party e = omega (arith, count_none (is_holder party) s.holders e, none_left (is_queuer party) s.queue)
 
 own_waits : (r : Rules) (s : State) (party : ℕ) (q : Queuer) (d : Decision) → q.party ≡ party → find (is_holder party) s.holders ≡ None → find (is_queuer party) s.queue ≡ Some q → IsKept r s → Agrees (Some (waits s q d).0) (waits s q d).1 party
@@ -153,7 +153,7 @@ own_away r s party client kind.Look e f none n one = agree_none (Some reply.NotH
 own_away r s party client kind.Count e f none n one = agree_none (Some (to_away r s party client kind.Count).0) s party none
 own_away r s party client (kind.Reread m) e f none n one = let never : Some m ≡ None = n in cc
 
-of_queuer : (party : ℕ) (xs : List Queuer) (q : Queuer) → find (is_queuer party) xs ≡ Some q → q.party ≡ party
+pub of_queuer : (party : ℕ) (xs : List Queuer) (q : Queuer) → find (is_queuer party) xs ≡ Some q → q.party ≡ party
 of_queuer party xs q e = eqb-true q.party party (find_passes (is_queuer party) xs q e)
 
 own_answered : (r : Rules) (s : State) (party : ℕ) (client : Client) (asked : Kind) (at : Place) → IsPlace s party at → IsSound r → IsKept r s → set_asked asked ≡ None → Agrees (Some (answered r s party client asked at).0) (answered r s party client asked at).1 party

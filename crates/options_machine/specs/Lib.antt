@@ -8,3 +8,4 @@ pub mod Run
 pub mod Law
 pub mod Own
 pub mod Kept
+pub mod Replies

@@ -1,5 +1,6 @@
 ghost use Rattle.options_machine.specs.Law.{HoldersStandInOrder, OpenStaysFree, RunsAreLawful, SettlingServes};
 ghost use Rattle.options_machine.specs.Own.{OwnEntriesTell, QuitsLeave, RunsAgree};
+ghost use Rattle.options_machine.specs.Replies.{DenialsNameTheirLine, NoSeatIsLeft, NothingIsHeld, PlacesAreGivenBack, PositionsAreTold, RepliesTell, SeatsAreGranted, SeatsAreHeldOnce, SeatsAreRetaken, SeatsAreReturned, SeatsLinger};
 
 /// In every state of a run the seats in use are at most the count, each RESERVE line of the rule set that holds has at
 /// most its cut number of charges, and each party has at most one entry in holders and queue together.
@@ -17,6 +18,12 @@ pub fn settling_serves()
 /// away what the reply says.
 pub fn standing_replies_agree()
     ensures { RunsAgree }
+{}
+
+/// At each state of a run a reply says what its party has after the step, unless it asked for a rule set: it is of holding
+/// exactly where the party is a told holder, and of queueing exactly where it waits or has a seat that it wasn't told of.
+pub fn replies_tell()
+    ensures { RepliesTell }
 {}
 
 /// After a Quit its party is neither holding nor queueing, and it has nothing at the desk.
@@ -38,4 +45,62 @@ pub fn holders_stand_in_order()
 /// RESERVE line keeps. Another rule set may keep more seats than are left, and then more than these are Open.
 pub fn open_stays_free()
     ensures { OpenStaysFree }
+{}
+
+/// A denial names the line that denies, and comes exactly where a party that has nothing asks for a seat and an exclude
+/// line, the first include line or a reached MAX line denies it, or where a party that waits asks how it stands and the
+/// rules bar the client for whom it waits.
+pub fn denials_name_their_line()
+    ensures { DenialsNameTheirLine }
+{}
+
+/// That there is no seat is said exactly to a Checkout of a party that has nothing and for which the rules find none, with
+/// how many seats are charged to Open and how many no RESERVE line keeps. The first is then at least the second.
+pub fn no_seat_is_left()
+    ensures { NoSeatIsLeft }
+{}
+
+/// A seat is granted exactly where a party that has nothing asks for one and the rules grant it with this charge, or where
+/// a party that the queue served asks how it stands and its seat has this charge.
+pub fn seats_are_granted()
+    ensures { SeatsAreGranted }
+{}
+
+/// A seat is taken again exactly where a party that has nothing asks for one and the rules say that one with this charge
+/// lingers for its client.
+pub fn seats_are_retaken()
+    ensures { SeatsAreRetaken }
+{}
+
+/// At each state of a run a party is told a position of the queue exactly where it waits at that position after the step,
+/// unless it asked for numbers or for a rule set.
+pub fn positions_are_told()
+    ensures { PositionsAreTold }
+{}
+
+/// A party is told that it waits no more exactly where it waited and gave its place back.
+pub fn places_are_given_back()
+    ensures { PlacesAreGivenBack }
+{}
+
+/// A party is told that it has a seat already exactly where it asks for one and is a told holder.
+pub fn seats_are_held_once()
+    ensures { SeatsAreHeldOnce }
+{}
+
+/// A party is told that it has no seat exactly where it asks about one and has neither a seat nor a place in the queue.
+pub fn nothing_is_held()
+    ensures { NothingIsHeld }
+{}
+
+/// A seat that is given back lingers exactly where a told holder gives it back, there is a linger time, and fewer than
+/// 4,096 seats linger.
+pub fn seats_linger()
+    ensures { SeatsLinger }
+{}
+
+/// A seat is returned exactly where a told holder gives it back and it doesn't linger, or a holder that wasn't told gives
+/// it back.
+pub fn seats_are_returned()
+    ensures { SeatsAreReturned }
 {}

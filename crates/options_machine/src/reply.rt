@@ -1,3 +1,7 @@
+ghost use Rattle.std.specs.Prelude.{◌≡◌};
+ghost use Rattle.options_machine.specs.Own.{is_of_holding, is_of_queueing};
+ghost use Rattle.options_machine.specs.Step.{set_asked};
+
 use lic_types::Client;
 
 /// What a client asks a desk. The kinds and what each does are this project's own.
@@ -19,6 +23,18 @@ pub enum Kind {
     Queue,
     /// That the rule set of this number holds from now on.
     Reread(u32),
+}
+
+impl Kind {
+    /// The number of the rule set that it asks for, from 0; None exactly where it asks for none.
+    pub fn set_asked(&self) -> Option<u32>
+        ensures { result ≡ set_asked self.now }
+    {
+        match self {
+            Kind::Reread(set) => Some(*set),
+            _ => None,
+        }
+    }
 }
 
 /// A request of a party, for a client that it states.
@@ -85,6 +101,36 @@ pub enum Reply {
     Unqueued,
     /// The rule set of this number holds.
     Reread(u32),
+}
+
+impl Reply {
+    /// Whether it says that its party has a seat and was told of it. This project's own: Granted, Retaken, AlreadyHeld,
+    /// Beaten, Held, and Counts with `own`.
+    pub fn is_of_holding(&self) -> bool
+        ensures { result ≡ is_of_holding self.now }
+    {
+        match self {
+            Reply::Granted(_)
+            | Reply::Retaken(_)
+            | Reply::AlreadyHeld
+            | Reply::Beaten
+            | Reply::Held => true,
+            Reply::Counts { own, .. } => *own,
+            _ => false,
+        }
+    }
+
+    /// Whether it says that its party waits, or has a seat that it wasn't told of. This project's own: Queued, and Counts
+    /// with `queued`.
+    pub fn is_of_queueing(&self) -> bool
+        ensures { result ≡ is_of_queueing self.now }
+    {
+        match self {
+            Reply::Queued(_) => true,
+            Reply::Counts { queued, .. } => *queued,
+            _ => false,
+        }
+    }
 }
 
 /// One step of a desk: a request, the moment that the step used, in seconds since 1970-01-01 UTC, and the reply.

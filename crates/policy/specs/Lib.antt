@@ -1,2 +1,4 @@
 pub mod Kept
+pub mod Pools
 pub mod Words
+pub mod Sound

@@ -1,4 +1,4 @@
-ghost use Rattle.std.specs.Prelude.{◌≡◌, ℕ, ◌+◌, ◌<◌, ◌≤◌, ◌^◌, ◌++◌, ◌&&◌, [], not, nat_lt, filter, find, length, map, take, vec_capacity};
+ghost use Rattle.std.specs.Prelude.{◌≡◌, count_by, ℕ, ◌+◌, ◌<◌, ◌≤◌, ◌^◌, ◌++◌, ◌&&◌, [], not, nat_lt, filter, find, length, map, take, vec_capacity};
 ghost use Rattle.std.specs.List.{position, position_or_len};
 ghost use Rattle.std.specs.Option.{option_copied, option_map};
 ghost use Rattle.policy.specs.Kept.{HasRoomFor, HasSameRoom, state_of};
@@ -8,11 +8,12 @@ ghost use Rattle.options_machine.specs.Settle.{joined};
 ghost use Rattle.options_machine.specs.Decide.{decide, number_of_limit};
 ghost use Rattle.options_machine.specs.Step.{answered, charged_anew, counted, full, holders_anew, left, lingering_anew, next_charge, position_of, released, taken, times, to_away, to_told, to_untold, to_waiting, told, told_if, unqueued, waits};
 
-use crate::lists::{Lists, charges, decide, seat, seat_again};
-use crate::matching::applies;
+use crate::lists::{Lists, charges, decide, holders_charged, lingering_charged, seat, seat_again};
 use crate::rules::DeskRules;
 use lic_types::Client;
-use options_machine::{Charge, Decision, Holder, Kind, Limit, Lingerer, Place, Queuer, Reply};
+use options_machine::{
+    Charge, Decision, Holder, Kind, Limit, Lingerer, Place, Queuer, Reply, applies,
+};
 
 /// At most so many entries linger.
 pub(crate) const MOST_LINGERING: usize = 4096;
@@ -295,26 +296,11 @@ fn answer_away(
     }
 }
 
-fn times_holders(holders: &[Holder], line: u32) -> usize
-    ensures count { result ≡ times (map (λ h. h.charge) holders.now) line }
-    ensures few { result ≤ length holders.now }
+/// How many of these entries have the charge.
+fn given(holders: &[Holder], lingering: &[Lingerer], charge: &Charge) -> usize
+    ensures { result ≡ count_by (λ c. same_charge c charge.now) (map (λ h. h.charge) holders.now ++ map (λ l. l.charge) lingering.now) }
 {
-    holders
-        .iter()
-        .map(|h| h.charge)
-        .filter(|charge| *charge == Charge::Reserve(line))
-        .count()
-}
-
-fn times_lingering(lingering: &[Lingerer], line: u32) -> usize
-    ensures count { result ≡ times (map (λ l. l.charge) lingering.now) line }
-    ensures few { result ≤ length lingering.now }
-{
-    lingering
-        .iter()
-        .map(|l| l.charge)
-        .filter(|charge| *charge == Charge::Reserve(line))
-        .count()
+    holders_charged(holders, charge) + lingering_charged(lingering, charge)
 }
 
 fn is_next(
@@ -327,8 +313,7 @@ fn is_next(
     ensures { result ≡ (applies rules.now.groups client.now limit.now.line && nat_lt (times (map (λ h. h.charge) holders.now ++ map (λ l. l.charge) lingering.now) limit.now.line.line) limit.now.number) }
 {
     applies(rules.groups(), client, &limit.line)
-        && times_holders(holders, limit.line.line) + times_lingering(lingering, limit.line.line)
-            < limit.number as usize
+        && given(holders, lingering, &Charge::Reserve(limit.line.line)) < limit.number as usize
 }
 
 fn next_line(

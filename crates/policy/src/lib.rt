@@ -3,16 +3,16 @@
 
 mod answers;
 mod lists;
-mod matching;
 mod plain;
 mod rules;
 mod selection;
 mod words;
 
-pub use matching::matches;
-pub use options_machine::{Charge, Entry, Holder, Kind, Limit, Lingerer, Queuer, Reply, Request};
+pub use options_machine::{
+    Charge, Cut, Entry, Holder, Kind, Limit, Lingerer, Queuer, Reply, Request, matches,
+};
 pub use plain::PlainBook;
-pub use rules::{DeskRules, are_sets};
+pub use rules::{DeskRules, are_sets, cuts_at};
 pub use words::reply_words;
 
 #[cfg(test)]

@@ -5,12 +5,11 @@ ghost use Rattle.options_machine.specs.Rules.{applies};
 ghost use Rattle.policy.specs.Kept.{HasSameRoom, OffersNext, front_of, state_of};
 ghost use Rattle.options_machine.specs.State.{charges, in_use, is_holder, is_queuer, place, same_charge};
 ghost use Rattle.options_machine.specs.Decide.{decide, has_room, is_left_by, is_reached, matched, number_of_limit, reached, reserved, retaken};
-ghost use Rattle.options_machine.specs.Settle.{in_time, moved, offered, reseated, seated, serve, settle, timely, with_holder, without_first};
+ghost use Rattle.options_machine.specs.Settle.{in_time, offered, reseated, seated, serve, settle, timely, with_holder, without_first};
 
-use crate::matching::applies;
 use crate::rules::DeskRules;
 use lic_types::{Client, RuleLine};
-use options_machine::{Charge, Decision, Holder, Limit, Lingerer, Queuer};
+use options_machine::{Charge, Decision, Holder, Limit, Lingerer, Queuer, applies};
 
 /// Moments are below this.
 const MOMENTS: u64 = 1 << 40;
@@ -25,14 +24,14 @@ pub struct Lists {
     pub set: u32,
 }
 
-fn holders_charged(holders: &[Holder], charge: &Charge) -> usize
+pub(crate) fn holders_charged(holders: &[Holder], charge: &Charge) -> usize
     ensures count { result ≡ count_by (λ h. same_charge h.charge charge.now) holders.now }
     ensures few { result ≤ length holders.now }
 {
     holders.iter().filter(|h| h.charge == *charge).count()
 }
 
-fn lingering_charged(lingering: &[Lingerer], charge: &Charge) -> usize
+pub(crate) fn lingering_charged(lingering: &[Lingerer], charge: &Charge) -> usize
     ensures count { result ≡ count_by (λ l. same_charge l.charge charge.now) lingering.now }
     ensures few { result ≤ length lingering.now }
 {
@@ -159,12 +158,6 @@ pub(crate) fn decide(rules: &DeskRules, lists: &Lists, client: &Client) -> Decis
     }
 }
 
-fn moved(now: u64, moment: u64) -> u64
-    ensures { result ≡ moved now moment }
-{
-    now.max(moment.min(MOMENTS - 1))
-}
-
 fn drop_silent(holders: &mut Vec<Holder>, timeout: Option<u64>, now: u64)
     ensures items { holders.new.items ≡ in_time timeout now holders.old.items }
     ensures capacity { vec_capacity holders.new ≡ vec_capacity holders.old }
@@ -186,7 +179,7 @@ fn let_go(rules: &DeskRules, lists: &mut Lists, moment: u64)
     ensures state { state_of lists.new ≡ timely rules.now (state_of lists.old) moment }
     ensures room { HasSameRoom lists.old lists.new }
 {
-    let now = moved(lists.moment, moment);
+    let now = lists.moment.max(moment.min(MOMENTS - 1));
     lists.moment = now;
     drop_silent(&mut lists.holders, rules.timeout(), now);
     drop_lingering(&mut lists.lingering, now);

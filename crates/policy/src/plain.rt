@@ -77,15 +77,9 @@ impl PlainBook {
     pub fn has_set(&self, kind: &Kind) -> bool
         ensures { IsTrue result ↔ IsBelow (set_asked kind.now) (length self.now.sets) }
     {
-        match kind {
-            Kind::Reread(n) => (*n as usize) < self.sets.len(),
-            Kind::Checkout => true,
-            Kind::Checkin => true,
-            Kind::Beat => true,
-            Kind::Look => true,
-            Kind::Quit => true,
-            Kind::Count => true,
-            Kind::Queue => true,
+        match kind.set_asked() {
+            None => true,
+            Some(set) => (set as usize) < self.sets.len(),
         }
     }
 
