@@ -1,107 +1,224 @@
-use Rattle.std.proofs.Common.{◌≡◌, ◌≢◌, ℕ, ◌⊎◌, List, Option, None, Some, IfSome, refl, sym, ap, ◌∙◌, subst, inl, inr}
-use Rattle.first_form.specs.Licence.{licence_of}
-use Rattle.first_form.specs.Options.{options_of}
-use Rattle.scripts.specs.Reading.{script_lines}
-use Rattle.licence_main.specs.Command.{FileNames}
-use Rattle.licence_main.specs.Files.{AreBytes, IsNotInForm, IsReadAs}
-use Rattle.licence_main.specs.Replay.{AreAccepted, Holds, HoldsOther, IsFirstNotYet, IsReached, IsRefusedAt, IsReplayOf, ToldFiles, told_by}
-use Rattle.licence_main.specs.Tool.{ReplaySays}
+use Rattle.std.proofs.Common.{◌≡◌, ◌≢◌, ℕ, ◌⊎◌, Bool, true, false, ◌&&◌, List, [], ◌∷◌, map, Option, None, Some, is_some, Result, Ok, Err, refl, sym, ap, ◌∙◌, subst, inl, inr}
+use Rattle.std.specs.List.{list_all}
+use Rattle.std.proofs.lemmas.Simd.{map-map}
+use Rattle.licence_main.specs.Command.{CommandOf, Check, Replay}
+use Rattle.licence_main.specs.Files.{AreOfCommand, AreReadings, Bytes, IsReading, are_told, told_by}
+use Rattle.licence_main.specs.Outcome.{outcome_of}
+use Rattle.licence_main.specs.Status.{has_own_fault, is_refusal}
+use Rattle.licence_main.specs.Tool.{Comes, EndSays, ForFiles, IsDone, IsSure, WritesAll, WritesFront}
 use Rattle.licence_main.specs.declared.status.Status.{Status}
-use Rattle.licence_main.specs.declared.status.Status.TheVariants.{Done, Usage, ReadFault, WriteFault, NoMemory, NotYet}
+use Rattle.licence_main.specs.declared.status.Status.TheVariants.{Done, Usage, Licence, Options, MoreOptions, Script, ReadFault, WriteFault, NoMemory, FileTooLong}
 
--- What the words are refused for, or else what the status of a replay says.
-pub record Performs (command : Option FileNames) (contents : List ℕ → Option (List ℕ)) (FR OR : Type 0) (old new : Option (List ℕ)) (s : Status) : Type 0 where
+-- What the words are refused for, or else what the status says of the files.
+pub record Performs (command : Option (CommandOf (List ℕ))) (contents : List ℕ → Bytes) (FR OR : Type 0) (old new : Bytes) (s : Status) : Type 0 where
   pub usage : command ≡ None → s ≡ Usage
-  pub refused : s ≡ Usage → new ≡ old
-  pub says : IfSome command (λ names. ReplaySays (told_by contents names) FR OR old new s)
+  pub unwritten : s ≡ Usage → new ≡ old
+  pub says : ForFiles command contents (λ told. IsDone FR OR told old new s)
 
-unwritten_says : (told : ToldFiles) (FR OR : Type 0) (old new : Option (List ℕ)) (s : Status) → ReplaySays told FR OR old new s → s ≢ Done → s ≢ WriteFault → new ≡ old
-unwritten_says told FR OR old new Done says done fault = absurd (done refl)
-unwritten_says told FR OR old new WriteFault says done fault = absurd (fault refl)
-unwritten_says told FR OR old new Usage says done fault = absurd says
-unwritten_says told FR OR old new (ReadFault at) says done fault = says.0
-unwritten_says told FR OR old new NoMemory says done fault = says
-unwritten_says told FR OR old new (NotYet at) says done fault = says.0
+-- what is done of a replay is done of the files that its words name
+pub for_replay : {X : Type 0} (command : Option (CommandOf (List ℕ))) (contents : List ℕ → Bytes) (licence options script : List ℕ) (f : X → List ℕ) (names : List X) (FR OR : Type 0) (old new : Bytes) (s : Status)
+    → Some (Replay (record { licence = licence; options = options; script = script; more = map f names })) ≡ command
+    → IsDone FR OR (Replay (record { licence = contents licence; options = contents options; script = contents script; more = map (λ (n : X). contents (f n)) names })) old new s
+    → ForFiles command contents (λ told. IsDone FR OR told old new s)
+for_replay command contents licence options script f names FR OR old new s is h =
+    subst (λ (c : Option (CommandOf (List ℕ))). ForFiles c contents (λ told. IsDone FR OR told old new s)) is
+    (subst (λ (more : List Bytes). IsDone FR OR (Replay (record { licence = contents licence; options = contents options; script = contents script; more = more })) old new s) (sym (map-map contents f names)) h)
+
+-- it ends with no word of the command set only where there is no command
+pub never_usage : (FR OR : Type 0) (told : CommandOf Bytes) (old new : Bytes) (s : Status) → IsDone FR OR told old new s → s ≡ Usage → ⊥
+never_usage FR OR told old new s d e = (subst (EndSays FR OR old new (outcome_of d.readings)) e d.says).1
+
+unwritten_at : (FR OR : Type 0) (told : CommandOf Bytes) (old new : Bytes) (outcome : Result (List ℕ) Status) (s : Status) → EndSays FR OR old new outcome s → s ≢ Done → s ≢ WriteFault → new ≡ old
+unwritten_at FR OR told old new outcome Usage says undone kept = says.0
+unwritten_at FR OR told old new outcome (ReadFault file) says undone kept = says.0
+unwritten_at FR OR told old new outcome (FileTooLong file) says undone kept = says.0
+unwritten_at FR OR told old new outcome (Script fault) says undone kept = says.0
+unwritten_at FR OR told old new outcome (Licence fault) says undone kept = says.0
+unwritten_at FR OR told old new outcome (Options fault) says undone kept = says.0
+unwritten_at FR OR told old new outcome (MoreOptions set fault) says undone kept = says.0
+unwritten_at FR OR told old new outcome NoMemory says undone kept = says.0
+unwritten_at FR OR told old new outcome Done says undone kept = absurd (undone refl)
+unwritten_at FR OR told old new outcome WriteFault says undone kept = absurd (kept refl)
 
 -- nothing was written
-pub unwritten : (command : Option FileNames) (contents : List ℕ → Option (List ℕ)) (FR OR : Type 0) (old new : Option (List ℕ)) (s : Status) → Performs command contents FR OR old new s → s ≢ Done → s ≢ WriteFault → new ≡ old
-unwritten None contents FR OR old new s p done fault = p.refused (p.usage refl)
-unwritten (Some names) contents FR OR old new s p done fault = unwritten_says (told_by contents names) FR OR old new s p.says done fault
+pub unwritten : (command : Option (CommandOf (List ℕ))) (contents : List ℕ → Bytes) (FR OR : Type 0) (old new : Bytes) (s : Status) → Performs command contents FR OR old new s → s ≢ Done → s ≢ WriteFault → new ≡ old
+unwritten None contents FR OR old new s p undone kept = p.unwritten (p.usage refl)
+unwritten (Some names) contents FR OR old new s p undone kept = unwritten_at FR OR (told_by contents names) old new (outcome_of p.says.readings) s p.says.says undone kept
 
-no_usage : (file : ℕ) → ReadFault file ≡ Usage → ⊥
-no_usage file e = cc
+-- all was written
+pub done : (command : Option (CommandOf (List ℕ))) (contents : List ℕ → Bytes) (FR OR : Type 0) (old new : Bytes) (s : Status) → Performs command contents FR OR old new s → s ≡ Done
+    → ForFiles command contents (λ told. WritesAll FR told old new)
+done None contents FR OR old new s p e = tt
+done (Some names) contents FR OR old new s p e =
+    let says = subst (EndSays FR OR old new (outcome_of p.says.readings)) e p.says.says in
+    (says.0, record { readings = p.says.readings; are = p.says.are; is = says.1 }, says.2)
 
--- at a read fault
-pub read_fault : (command : Option FileNames) (contents : List ℕ → Option (List ℕ)) (FR OR : Type 0) (old new : Option (List ℕ)) (s : Status) → Performs command contents FR OR old new s → (file : ℕ) → s ≡ ReadFault file
-    → FR × IfSome command (λ names. IsReached (told_by contents names) file)
-read_fault None contents FR OR old new s p file e = let same : ReadFault file ≡ Usage = sym e ∙ p.usage refl in absurd (no_usage file same)
-read_fault (Some names) contents FR OR old new s p file e = let says = subst (ReplaySays (told_by contents names) FR OR old new) e p.says in (says.2, says.1)
+-- a front was written
+pub written : (command : Option (CommandOf (List ℕ))) (contents : List ℕ → Bytes) (FR OR : Type 0) (old new : Bytes) (s : Status) → Performs command contents FR OR old new s → s ≡ WriteFault
+    → ForFiles command contents (λ told. WritesFront FR told old new)
+written None contents FR OR old new s p e = tt
+written (Some names) contents FR OR old new s p e =
+    let says = subst (EndSays FR OR old new (outcome_of p.says.readings)) e p.says.says in
+    (says.1.0, record { readings = p.says.readings; are = p.says.are; is = says.1.1 }, says.1.2)
 
--- at a file that isn't served yet
-pub not_yet : (command : Option FileNames) (contents : List ℕ → Option (List ℕ)) (FR OR : Type 0) (old new : Option (List ℕ)) (s : Status) → Performs command contents FR OR old new s → (file : ℕ) → s ≡ NotYet file
-    → IfSome command (λ names. IsFirstNotYet (told_by contents names) file)
-not_yet None contents FR OR old new s p file e = tt
-not_yet (Some names) contents FR OR old new s p file e = let says = subst (ReplaySays (told_by contents names) FR OR old new) e p.says in says.1
+no_usage : WriteFault ≡ Usage → ⊥
+no_usage e = cc
 
--- a file isn't both read in its form and told to hold what isn't in it
+no_fault : (file : ℕ) → ReadFault file ≡ Usage → ⊥
+no_fault file e = cc
 
-none_some : {Y : Type 0} (found : Option Y) (y : Y) → found ≡ Some y → found ≡ None → ⊥
-none_some None y e h = cc
-none_some (Some z) y e h = cc
+-- a write fault
+pub write_fault : (command : Option (CommandOf (List ℕ))) (contents : List ℕ → Bytes) (FR OR : Type 0) (old new : Bytes) (s : Status) → Performs command contents FR OR old new s → s ≡ WriteFault → OR
+write_fault None contents FR OR old new s p e = absurd (no_usage (sym e ∙ p.usage refl))
+write_fault (Some names) contents FR OR old new s p e = (subst (EndSays FR OR old new (outcome_of p.says.readings)) e p.says.says).0
 
-read_other : {Y : Type 0} (told : Option (List ℕ)) (form : List ℕ → Option Y) (y : Y) → IsReadAs told form y → HoldsOther told form → ⊥
-read_other told form y read other =
-    let same : read.bytes ≡ other.bytes = subst (λ (t : Option (List ℕ)). AreBytes t read.bytes) other.is read.are in
-    none_some (form other.bytes) y (ap form (sym same) ∙ read.reads) other.reads
+-- a status that tells of what a file holds is what comes of the files
+refused_at : (FR OR : Type 0) (old new : Bytes) (outcome : Result (List ℕ) Status) (s : Status) → EndSays FR OR old new outcome s → is_refusal s ≡ true → outcome ≡ Err s
+refused_at FR OR old new outcome (FileTooLong file) says is = says.1
+refused_at FR OR old new outcome (Script fault) says is = says.1
+refused_at FR OR old new outcome (Licence fault) says is = says.1.0
+refused_at FR OR old new outcome (Options fault) says is = says.1.0
+refused_at FR OR old new outcome (MoreOptions set fault) says is = says.1.0
+refused_at FR OR old new outcome Done says is = cc
+refused_at FR OR old new outcome Usage says is = cc
+refused_at FR OR old new outcome (ReadFault file) says is = cc
+refused_at FR OR old new outcome WriteFault says is = cc
+refused_at FR OR old new outcome NoMemory says is = cc
 
-held_other : {Y : Type 0} (told : Option (List ℕ)) (form : List ℕ → Option Y) → Holds told form → IsNotInForm told form → ⊥
-held_other told form held other = none_some (form held.bytes) held.value held.reads (subst (λ (t : Option (List ℕ)). IsNotInForm t form) held.is other)
+pub refused : (command : Option (CommandOf (List ℕ))) (contents : List ℕ → Bytes) (FR OR : Type 0) (old new : Bytes) (s : Status) → Performs command contents FR OR old new s → is_refusal s ≡ true
+    → ForFiles command contents (λ told. Comes FR told (Err s))
+refused None contents FR OR old new s p e = tt
+refused (Some names) contents FR OR old new s p e = record { readings = p.says.readings; are = p.says.are; is = refused_at FR OR old new (outcome_of p.says.readings) s p.says.says e }
 
-refused_replay : (told : ToldFiles) (text : List ℕ) (file : ℕ) → IsReplayOf told text → IsRefusedAt told file → ⊥
-refused_replay told text file r (inl h) = read_other told.licence licence_of r.pool r.licence_is h.1
-refused_replay told text file r (inr (inl h)) = read_other told.options options_of r.lines r.options_is h.2
-refused_replay told text file r (inr (inr h)) = read_other told.script script_lines r.script r.script_is h.3
+own_at : (FR OR : Type 0) (old new : Bytes) (outcome : Result (List ℕ) Status) (s : Status) → EndSays FR OR old new outcome s → has_own_fault s ≡ true
+own_at FR OR old new outcome (Licence fault) says = says.1.1
+own_at FR OR old new outcome (Options fault) says = says.1.1
+own_at FR OR old new outcome (MoreOptions set fault) says = says.1.1
+own_at FR OR old new outcome Done says = refl
+own_at FR OR old new outcome Usage says = refl
+own_at FR OR old new outcome (ReadFault file) says = refl
+own_at FR OR old new outcome WriteFault says = refl
+own_at FR OR old new outcome NoMemory says = refl
+own_at FR OR old new outcome (FileTooLong file) says = refl
+own_at FR OR old new outcome (Script fault) says = refl
 
-same_file : (told : ToldFiles) (at file : ℕ) → IsFirstNotYet told at → IsRefusedAt told file → at ≡ file
-same_file told at file (inl a) (inl b) = a.0 ∙ sym b.0
-same_file told at file (inl a) (inr (inl b)) = absurd (held_other told.licence licence_of b.1 a.1)
-same_file told at file (inl a) (inr (inr b)) = absurd (held_other told.licence licence_of b.1 a.1)
-same_file told at file (inr (inl a)) (inl b) = absurd (read_other told.licence licence_of a.1.0 a.1.1 b.1)
-same_file told at file (inr (inl a)) (inr (inl b)) = a.0 ∙ sym b.0
-same_file told at file (inr (inl a)) (inr (inr b)) = absurd (held_other told.options options_of b.2 a.2)
-same_file told at file (inr (inr a)) (inl b) = absurd (read_other told.licence licence_of a.1.0 a.1.1 b.1)
-same_file told at file (inr (inr a)) (inr (inl b)) = absurd (read_other told.options options_of a.2.0 a.2.1 b.2)
-same_file told at file (inr (inr a)) (inr (inr b)) = a.0 ∙ sym b.0
+-- a fault in a status is never want of memory
+pub own_fault : (command : Option (CommandOf (List ℕ))) (contents : List ℕ → Bytes) (FR OR : Type 0) (old new : Bytes) (s : Status) → Performs command contents FR OR old new s → has_own_fault s ≡ true
+own_fault None contents FR OR old new s p = rw (p.usage refl) refl
+own_fault (Some names) contents FR OR old new s p = own_at FR OR old new (outcome_of p.says.readings) s p.says.says
 
-comes : (told : ToldFiles) (FR OR : Type 0) (old new : Option (List ℕ)) (s : Status) (file : ℕ) → ReplaySays told FR OR old new s → IsRefusedAt told file → (FR → ⊥) → (s ≡ NotYet file) ⊎ (s ≡ NoMemory)
-comes told FR OR old new Done file says refused calm = absurd (refused_replay told says.0 file says.1 refused)
-comes told FR OR old new WriteFault file says refused calm = absurd (refused_replay told says.1.0 file says.1.1 refused)
-comes told FR OR old new Usage file says refused calm = absurd says
-comes told FR OR old new (ReadFault at) file says refused calm = absurd (calm says.2)
-comes told FR OR old new NoMemory file says refused calm = inr refl
-comes told FR OR old new (NotYet at) file says refused calm = inl (ap NotYet (same_file told at file says.1 refused))
+-- what is read of a file where no reading fails is what it is told to hold
+same_reading : (told reading : Bytes) → is_some told ≡ true → IsReading ⊥ told reading → reading ≡ told
+same_reading None reading is reads = cc
+same_reading (Some held) None is reads = absurd reads
+same_reading (Some held) (Some bytes) is reads = ap Some reads
 
--- where the first file that isn't in the first form is told
-pub not_yet_comes : (command : Option FileNames) (contents : List ℕ → Option (List ℕ)) (FR OR : Type 0) (old new : Option (List ℕ)) (s : Status) → Performs command contents FR OR old new s → (file : ℕ)
-    → IfSome command (λ names. IsRefusedAt (told_by contents names) file → (FR → ⊥) → (s ≡ NotYet file) ⊎ (s ≡ NoMemory))
-not_yet_comes None contents FR OR old new s p file = tt
-not_yet_comes (Some names) contents FR OR old new s p file = λ refused calm. comes (told_by contents names) FR OR old new s file p.says refused calm
+both : (a b : Bool) → (a && b) ≡ true → (a ≡ true) × (b ≡ true)
+both true b e = (refl, e)
+both false b e = cc
 
-accepted_first : (told : ToldFiles) (at : ℕ) → AreAccepted told → IsFirstNotYet told at → ⊥
-accepted_first told at a (inl h) = held_other told.licence licence_of a.licence h.1
-accepted_first told at a (inr (inl h)) = held_other told.options options_of a.options h.2
-accepted_first told at a (inr (inr h)) = held_other told.script script_lines a.script h.3
+same_readings : (told readings : List Bytes) → list_all is_some told ≡ true → AreReadings ⊥ told readings → readings ≡ told
+same_readings [] [] are reads = refl
+same_readings [] (reading ∷ readings) are reads = absurd reads
+same_readings (told ∷ others) [] are reads = absurd reads
+same_readings (told ∷ others) (reading ∷ readings) are reads =
+    let parts = both (is_some told) (list_all is_some others) are in
+    let first = same_reading told reading parts.0 reads.0 in
+    let behind = same_readings others readings parts.1 reads.1 in
+    cc
 
-ends : (told : ToldFiles) (FR OR : Type 0) (old new : Option (List ℕ)) (s : Status) → ReplaySays told FR OR old new s → AreAccepted told → (FR → ⊥) → (OR → ⊥) → (s ≡ Done) ⊎ (s ≡ NoMemory)
-ends told FR OR old new Done says a calm quiet = inl refl
-ends told FR OR old new WriteFault says a calm quiet = absurd (quiet says.0)
-ends told FR OR old new Usage says a calm quiet = absurd says
-ends told FR OR old new (ReadFault at) says a calm quiet = absurd (calm says.2)
-ends told FR OR old new NoMemory says a calm quiet = inr refl
-ends told FR OR old new (NotYet at) says a calm quiet = absurd (accepted_first told at a says.1)
+-- where all is told, just that decides
+pub told_is_sure : (told : CommandOf Bytes) → are_told told ≡ true → IsSure told (outcome_of told)
+told_is_sure (Check told) are (Check readings) reads =
+    let parts = both (is_some told.licence) (is_some told.options) are in
+    let e = same_reading told.licence readings.licence parts.0 reads.licence in
+    let f = same_reading told.options readings.options parts.1 reads.options in
+    rw (e, f) refl
+told_is_sure (Check told) are (Replay readings) reads = absurd reads
+told_is_sure (Replay told) are (Check readings) reads = absurd reads
+told_is_sure (Replay told) are (Replay readings) reads =
+    let p = both (is_some told.licence) (is_some told.options && (is_some told.script && list_all is_some told.more)) are in
+    let q = both (is_some told.options) (is_some told.script && list_all is_some told.more) p.1 in
+    let r = both (is_some told.script) (list_all is_some told.more) q.1 in
+    let e = same_reading told.licence readings.licence p.0 reads.licence in
+    let f = same_reading told.options readings.options q.0 reads.options in
+    let g = same_reading told.script readings.script r.0 reads.script in
+    let h = same_readings told.more readings.more r.1 reads.more in
+    rw (e, f, g, h) refl
 
--- where all three files are told and accepted
-pub complete : (command : Option FileNames) (contents : List ℕ → Option (List ℕ)) (FR OR : Type 0) (old new : Option (List ℕ)) (s : Status) → Performs command contents FR OR old new s
-    → IfSome command (λ names. AreAccepted (told_by contents names) → (FR → ⊥) → (OR → ⊥) → (s ≡ Done) ⊎ (s ≡ NoMemory))
+pub told : (command : Option (CommandOf (List ℕ))) (contents : List ℕ → Bytes) → ForFiles command contents (λ told. are_told told ≡ true → IsSure told (outcome_of told))
+told None contents = tt
+told (Some names) contents = λ are. told_is_sure (told_by contents names) are
+
+-- a reading that can't fail
+
+calm_reading : (FR : Type 0) (told reading : Bytes) → (FR → ⊥) → IsReading FR told reading → IsReading ⊥ told reading
+calm_reading FR told None calm reads = absurd (calm reads)
+calm_reading FR told (Some bytes) calm reads = reads
+
+calm_readings : (FR : Type 0) (told readings : List Bytes) → (FR → ⊥) → AreReadings FR told readings → AreReadings ⊥ told readings
+calm_readings FR [] [] calm reads = tt
+calm_readings FR [] (reading ∷ readings) calm reads = reads
+calm_readings FR (told ∷ others) [] calm reads = reads
+calm_readings FR (told ∷ others) (reading ∷ readings) calm reads = (calm_reading FR told reading calm reads.0, calm_readings FR others readings calm reads.1)
+
+calm_command : (FR : Type 0) (told readings : CommandOf Bytes) → (FR → ⊥) → AreOfCommand FR told readings → AreOfCommand ⊥ told readings
+calm_command FR (Check told) (Check readings) calm reads = record { licence = calm_reading FR told.licence readings.licence calm reads.licence; options = calm_reading FR told.options readings.options calm reads.options }
+calm_command FR (Check told) (Replay readings) calm reads = reads
+calm_command FR (Replay told) (Check readings) calm reads = reads
+calm_command FR (Replay told) (Replay readings) calm reads = record {
+  licence = calm_reading FR told.licence readings.licence calm reads.licence;
+  options = calm_reading FR told.options readings.options calm reads.options;
+  script = calm_reading FR told.script readings.script calm reads.script;
+  more = calm_readings FR told.more readings.more calm reads.more;
+}
+
+ok_err : (outcome : Result (List ℕ) Status) (text : List ℕ) (s : Status) → outcome ≡ Ok text → outcome ≡ Err s → ⊥
+ok_err outcome text s e f = cc
+
+ends_done : (FR OR : Type 0) (old new : Bytes) (outcome : Result (List ℕ) Status) (text : List ℕ) (s : Status) → outcome ≡ Ok text → (OR → ⊥) → EndSays FR OR old new outcome s → (s ≡ Done) ⊎ (s ≡ NoMemory)
+ends_done FR OR old new outcome text Done e quiet says = inl refl
+ends_done FR OR old new outcome text NoMemory e quiet says = inr refl
+ends_done FR OR old new outcome text WriteFault e quiet says = absurd (quiet says.0)
+ends_done FR OR old new outcome text Usage e quiet says = absurd says.1
+ends_done FR OR old new outcome text (ReadFault file) e quiet says = absurd (ok_err outcome text (ReadFault file) e says.1.0)
+ends_done FR OR old new outcome text (FileTooLong file) e quiet says = absurd (ok_err outcome text (FileTooLong file) e says.1)
+ends_done FR OR old new outcome text (Script fault) e quiet says = absurd (ok_err outcome text (Script fault) e says.1)
+ends_done FR OR old new outcome text (Licence fault) e quiet says = absurd (ok_err outcome text (Licence fault) e says.1.0)
+ends_done FR OR old new outcome text (Options fault) e quiet says = absurd (ok_err outcome text (Options fault) e says.1.0)
+ends_done FR OR old new outcome text (MoreOptions set fault) e quiet says = absurd (ok_err outcome text (MoreOptions set fault) e says.1.0)
+
+pub complete : (command : Option (CommandOf (List ℕ))) (contents : List ℕ → Bytes) (FR OR : Type 0) (old new : Bytes) (s : Status) → Performs command contents FR OR old new s
+    → ForFiles command contents (λ told. (text : List ℕ) → IsSure told (Ok text) → (FR → ⊥) → (OR → ⊥) → (s ≡ Done) ⊎ (s ≡ NoMemory))
 complete None contents FR OR old new s p = tt
-complete (Some names) contents FR OR old new s p = λ a calm quiet. ends (told_by contents names) FR OR old new s p.says a calm quiet
+complete (Some names) contents FR OR old new s p = λ text sure calm quiet.
+    ends_done FR OR old new (outcome_of p.says.readings) text s (sure p.says.readings (calm_command FR (told_by contents names) p.says.readings calm p.says.are)) quiet p.says.says
+
+same_err : (outcome : Result (List ℕ) Status) (status s : Status) → outcome ≡ Err status → outcome ≡ Err s → (s ≡ status) ⊎ (s ≡ NoMemory)
+same_err outcome status s e f = let same : s ≡ status = cc in inl same
+
+ends_refused : (FR OR : Type 0) (old new : Bytes) (outcome : Result (List ℕ) Status) (status s : Status) → outcome ≡ Err status → EndSays FR OR old new outcome s → (s ≡ status) ⊎ (s ≡ NoMemory)
+ends_refused FR OR old new outcome status Done e says = absurd (ok_err outcome says.0 status says.1 e)
+ends_refused FR OR old new outcome status NoMemory e says = inr refl
+ends_refused FR OR old new outcome status WriteFault e says = absurd (ok_err outcome says.1.0 status says.1.1 e)
+ends_refused FR OR old new outcome status Usage e says = absurd says.1
+ends_refused FR OR old new outcome status (ReadFault file) e says = same_err outcome status (ReadFault file) e says.1.0
+ends_refused FR OR old new outcome status (FileTooLong file) e says = same_err outcome status (FileTooLong file) e says.1
+ends_refused FR OR old new outcome status (Script fault) e says = same_err outcome status (Script fault) e says.1
+ends_refused FR OR old new outcome status (Licence fault) e says = same_err outcome status (Licence fault) e says.1.0
+ends_refused FR OR old new outcome status (Options fault) e says = same_err outcome status (Options fault) e says.1.0
+ends_refused FR OR old new outcome status (MoreOptions set fault) e says = same_err outcome status (MoreOptions set fault) e says.1.0
+
+pub refusal_comes : (command : Option (CommandOf (List ℕ))) (contents : List ℕ → Bytes) (FR OR : Type 0) (old new : Bytes) (s : Status) → Performs command contents FR OR old new s
+    → ForFiles command contents (λ told. (status : Status) → IsSure told (Err status) → (FR → ⊥) → (s ≡ status) ⊎ (s ≡ NoMemory))
+refusal_comes None contents FR OR old new s p = tt
+refusal_comes (Some names) contents FR OR old new s p = λ status sure calm.
+    ends_refused FR OR old new (outcome_of p.says.readings) status s (sure p.says.readings (calm_command FR (told_by contents names) p.says.readings calm p.says.are)) p.says.says
+
+-- a read fault
+pub read_fault : (command : Option (CommandOf (List ℕ))) (contents : List ℕ → Bytes) (FR OR : Type 0) (old new : Bytes) (s : Status) → Performs command contents FR OR old new s → (file : ℕ) → s ≡ ReadFault file
+    → FR × ForFiles command contents (λ told. Comes FR told (Err s))
+read_fault None contents FR OR old new s p file e = absurd (no_fault file (sym e ∙ p.usage refl))
+read_fault (Some names) contents FR OR old new s p file e =
+    let says = subst (EndSays FR OR old new (outcome_of p.says.readings)) e p.says.says in
+    (says.1.1, record { readings = p.says.readings; are = p.says.are; is = says.1.0 ∙ ap Err (sym e) })

@@ -1,27 +1,49 @@
-use Rattle.std.specs.Prelude.{◌≡◌, ℕ, List, Option, None, Some, Result, Ok, Err, IfSome}
-use Rattle.licence_main.specs.declared.status.Status.{Status}
-use Rattle.licence_main.specs.declared.status.Status.TheVariants.{Done, Usage, ReadFault, WriteFault, NoMemory, NotYet}
+use Rattle.std.specs.Prelude.{◌≡◌, ℕ, Bool, ◌&&◌, List, [], ◌∷◌, map, Option, None, Some, IfSome, is_some}
+use Rattle.std.specs.List.{list_all}
+use Rattle.licence_main.specs.Command.{CheckFiles, CommandOf, Check, Replay, ReplayFiles}
 
--- the bytes of a file: those that are told, where it is told what it holds
-abbrev pub AreBytes : Option (List ℕ) → List ℕ → Type 0
-AreBytes told bytes = IfSome told (λ held. bytes ≡ held)
+-- the bytes of a file or a sink: what it holds, as far as that is told, or what was read of a file, where its reading didn't fail
+abbrev pub Bytes : Type 0
+Bytes = Option (List ℕ)
 
--- a file was read as this
-pub record IsReadAs {Y : Type 0} (told : Option (List ℕ)) (form : List ℕ → Option Y) (y : Y) : Type 0 where
-  pub bytes : List ℕ
-  pub are : AreBytes told bytes
-  pub reads : form bytes ≡ Some y
+-- what the files of a command hold, as far as that is told
+abbrev pub told_by : (List ℕ → Bytes) → CommandOf (List ℕ) → CommandOf Bytes
+told_by contents (Check names) = Check (record { licence = contents names.licence; options = contents names.options })
+told_by contents (Replay names) =
+    Replay (record { licence = contents names.licence; options = contents names.options; script = contents names.script; more = map contents names.more })
 
--- a file, where it is told what it holds, isn't in its form
-abbrev pub IsNotInForm : {Y : Type 0} → Option (List ℕ) → (List ℕ → Option Y) → Type 0
-IsNotInForm told form = IfSome told (λ held. form held ≡ None)
+-- whether it is told of each file what it holds
+abbrev pub are_told : CommandOf Bytes → Bool
+are_told (Check told) = is_some told.licence && is_some told.options
+are_told (Replay told) = is_some told.licence && (is_some told.options && (is_some told.script && list_all is_some told.more))
 
--- what the reading of the file at a position says: of what it holds, and of the count of faults
-abbrev pub ReadingSays : {X Y : Type 0} → (X → Y) → Option (List ℕ) → (List ℕ → Option Y) → Type 0 → ℕ → Result X Status → Type 0
-ReadingSays view told form Rose file (Ok x) = IsReadAs told form (view x)
-ReadingSays view told form Rose file (Err (ReadFault at)) = (at ≡ file) × Rose
-ReadingSays view told form Rose file (Err (NotYet at)) = (at ≡ file) × IsNotInForm told form
-ReadingSays view told form Rose file (Err NoMemory) = Unit {0}
-ReadingSays view told form Rose file (Err Done) = ⊥
-ReadingSays view told form Rose file (Err Usage) = ⊥
-ReadingSays view told form Rose file (Err WriteFault) = ⊥
+-- what may be read of a file: just the bytes that it is told to hold, or any where nothing is told; and nothing where its reading failed
+abbrev pub IsReading : Type 0 → Bytes → Bytes → Type 0
+IsReading Failed told (Some bytes) = IfSome told (λ held. bytes ≡ held)
+IsReading Failed told None = Failed
+
+-- the same of several files in their order
+abbrev pub AreReadings : Type 0 → List Bytes → List Bytes → Type 0
+AreReadings Failed [] [] = Unit {0}
+AreReadings Failed [] (reading ∷ readings) = ⊥
+AreReadings Failed (told ∷ others) [] = ⊥
+AreReadings Failed (told ∷ others) (reading ∷ readings) = IsReading Failed told reading × AreReadings Failed others readings
+
+-- the same of the files of a check
+pub record AreOfCheck (Failed : Type 0) (told readings : CheckFiles Bytes) : Type 0 where
+  pub licence : IsReading Failed told.licence readings.licence
+  pub options : IsReading Failed told.options readings.options
+
+-- the same of the files of a replay
+pub record AreOfReplay (Failed : Type 0) (told readings : ReplayFiles Bytes) : Type 0 where
+  pub licence : IsReading Failed told.licence readings.licence
+  pub options : IsReading Failed told.options readings.options
+  pub script : IsReading Failed told.script readings.script
+  pub more : AreReadings Failed told.more readings.more
+
+-- the same of the files of a command
+abbrev pub AreOfCommand : Type 0 → CommandOf Bytes → CommandOf Bytes → Type 0
+AreOfCommand Failed (Check told) (Check readings) = AreOfCheck Failed told readings
+AreOfCommand Failed (Replay told) (Replay readings) = AreOfReplay Failed told readings
+AreOfCommand Failed (Check told) (Replay readings) = ⊥
+AreOfCommand Failed (Replay told) (Check readings) = ⊥

@@ -1,6 +1,6 @@
 pub mod Command
+pub mod FaultText
 pub mod Files
-pub mod Replay
+pub mod Outcome
 pub mod Status
 pub mod Tool
-pub mod Whole

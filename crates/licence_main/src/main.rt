@@ -2,7 +2,11 @@
 #![tactic(auto)]
 
 mod command;
+mod err_line;
+mod fault_text;
+mod perform;
 mod reading;
+mod room;
 mod status;
 #[cfg(test)]
 mod tests;

@@ -1,88 +1,150 @@
-ghost use Rattle.std.specs.Prelude.{◌≡◌, ◌≤◌, ℕ, List, IfOk, true};
+ghost use Rattle.std.specs.Prelude.{◌≡◌, ◌≤◌, ◌<◌, ◌∷◌, [], ℕ, List, IfOk, Result, length, map, string_bytes, true, vec_len};
 ghost use Rattle.std.specs.List.{list_all};
-ghost use Rattle.options_machine.specs.Rules.{is_plain};
+ghost use Rattle.feature_lines.specs.Licence.{Contents, IsFaultOf};
+ghost use Rattle.options_text.specs.Options.{OptionsFile};
 ghost use Rattle.outside.specs.Told.{HasRisen};
-ghost use Rattle.first_form.specs.Licence.{licence_of};
-ghost use Rattle.first_form.specs.Options.{options_of};
-ghost use Rattle.scripts.specs.Fits.{is_fit};
-ghost use Rattle.scripts.specs.Reading.{script_lines};
-ghost use Rattle.licence_main.specs.Files.{ReadingSays};
-ghost use Rattle.licence_main.specs.Whole.{whole};
+ghost use Rattle.script_text.specs.Fits.{is_fit};
+ghost use Rattle.licence_main.specs.Outcome.{accepted, heard, licence_heard, options_heard, options_status, position_of_set, script_heard, sets_heard};
+ghost use Rattle.licence_main.specs.Tool.{AreHeard, IsHeard, IsOptionsFault, RefusalSays};
 
 use crate::status::Status;
-use first_form::{FILE_LIMIT, PlainPool, read_licence, read_options};
-use lic_types::RuleLine;
+use feature_lines::{Licence, LicenceFault, read_licence};
+use options_text::{Options, OptionsFault, read_options};
 use outside::{FileFault, Files};
-use scripts::{ScriptLine, read_script};
+use script_text::{ScriptLine, ScriptRefusal, read_script};
 use std::alloc::Global;
 
-/// The bytes of the file of a name, which stands at a position among the words.
+/// The most bytes that a file may have.
+const FILE_LIMIT: usize = 1_048_576;
+
+/// The bytes of the file of a name, which stands at a position.
 fn read_file<F: Files>(
     alloc: Global,
     files: &mut F,
     name: &str,
     position: u8,
 ) -> Result<Vec<u8>, Status>
-    ensures says { ReadingSays (λ v. v.items) (F.contents files.old name.now) whole (HasRisen (F.faults files.old) (F.faults files.new)) position result }
+    ensures says { IsHeard (λ v. v.items) (heard position) (HasRisen (F.faults files.old) (F.faults files.new)) (F.contents files.old name.now) result }
+    ensures short { IfOk result (λ v. vec_len v ≤ 1048576) }
     ensures later { F.faults files.old ≤ F.faults files.new }
     ensures same { (other : List ℕ) → F.contents files.new other ≡ F.contents files.old other }
 {
     match files.read(alloc, name, FILE_LIMIT) {
         Ok(bytes) => Ok(bytes),
         Err(FileFault::Failed) => Err(Status::ReadFault(position)),
-        Err(FileFault::TooLong) => Err(Status::NotYet(position)),
+        Err(FileFault::TooLong) => Err(Status::FileTooLong(position)),
         Err(FileFault::NoMemory) => Err(Status::NoMemory),
     }
 }
 
-/// The pool of the licence file of a name.
-pub fn read_pool<F: Files>(alloc: Global, files: &mut F, name: &str) -> Result<PlainPool, Status>
-    ensures says { ReadingSays (λ pool. pool) (F.contents files.old name.now) licence_of (HasRisen (F.faults files.old) (F.faults files.new)) 1 result }
-    ensures count { IfOk result (λ pool. pool.count ≤ 65535) }
+/// The status for the fault of a licence.
+fn licence_status(fault: LicenceFault) -> Status
+    ensures { (licence : Result Contents LicenceFault) → IsFaultOf licence fault → RefusalSays ⊥ (accepted Status.Licence licence) result }
+{
+    match fault {
+        LicenceFault::NoMemory => Status::NoMemory,
+        _ => Status::Licence(fault),
+    }
+}
+
+/// The status for the fault of the options file of a rule set.
+fn options_status(set: u8, fault: OptionsFault) -> Status
+    ensures { (options : Result OptionsFile OptionsFault) → IsOptionsFault options fault → RefusalSays ⊥ (accepted (options_status set) options) result }
+{
+    match fault {
+        OptionsFault::NoMemory => Status::NoMemory,
+        _ => {
+            if set == 0 {
+                Status::Options(fault)
+            } else {
+                Status::MoreOptions(set, fault)
+            }
+        }
+    }
+}
+
+/// The licence of the file of a name, which is the first.
+pub fn read_licence_file<F: Files>(
+    alloc: Global,
+    files: &mut F,
+    name: &str,
+) -> Result<Licence, Status>
+    ensures says { IsHeard (λ licence. licence) licence_heard (HasRisen (F.faults files.old) (F.faults files.new)) (F.contents files.old name.now) result }
     ensures later { F.faults files.old ≤ F.faults files.new }
     ensures same { (other : List ℕ) → F.contents files.new other ≡ F.contents files.old other }
 {
     let file = read_file(alloc, files, name, 1)?;
-    match read_licence(file.as_slice()) {
-        Some(pool) => Ok(pool),
-        None => Err(Status::NotYet(1)),
+    match read_licence(alloc, file.as_slice()) {
+        Ok(licence) => Ok(licence),
+        Err(fault) => Err(licence_status(fault)),
     }
 }
 
-/// The rule lines of the options file of a name.
-pub fn read_rules<F: Files>(
+/// The position of the options file of a rule set: the one of number 0 stands second, the others stand behind the script.
+fn position_of_set(set: u8) -> u8
+    requires { set ≤ 3 }
+    ensures { result ≡ position_of_set set }
+{
+    if set == 0 { 2 } else { 3 + set }
+}
+
+/// The options of the file of a name, which is that of the rule set of this number.
+pub fn read_options_file<F: Files>(
     alloc: Global,
     files: &mut F,
     name: &str,
-) -> Result<Vec<RuleLine>, Status>
-    ensures says { ReadingSays (λ v. v.items) (F.contents files.old name.now) options_of (HasRisen (F.faults files.old) (F.faults files.new)) 2 result }
-    ensures plain { IfOk result (λ lines. list_all is_plain lines.items ≡ true) }
+    set: u8,
+) -> Result<Options, Status>
+    requires { set ≤ 3 }
+    ensures says { IsHeard (λ options. options) (options_heard set) (HasRisen (F.faults files.old) (F.faults files.new)) (F.contents files.old name.now) result }
     ensures later { F.faults files.old ≤ F.faults files.new }
     ensures same { (other : List ℕ) → F.contents files.new other ≡ F.contents files.old other }
 {
-    let file = read_file(alloc, files, name, 2)?;
+    let file = read_file(alloc, files, name, position_of_set(set))?;
     match read_options(alloc, file.as_slice()) {
-        Ok(Some(lines)) => Ok(lines),
-        Ok(None) => Err(Status::NotYet(2)),
-        Err(_) => Err(Status::NoMemory),
+        Ok(options) => Ok(options),
+        Err(fault) => Err(options_status(set, fault)),
     }
 }
 
-/// The lines of the script of a name.
-pub fn read_lines<F: Files>(
+/// The lines of the script of a name, which is the third file.
+pub fn read_script_file<F: Files>(
     alloc: Global,
     files: &mut F,
     name: &str,
 ) -> Result<Vec<ScriptLine>, Status>
-    ensures says { ReadingSays (λ v. v.items) (F.contents files.old name.now) script_lines (HasRisen (F.faults files.old) (F.faults files.new)) 3 result }
+    ensures says { IsHeard (λ v. v.items) script_heard (HasRisen (F.faults files.old) (F.faults files.new)) (F.contents files.old name.now) result }
     ensures fit { IfOk result (λ lines. list_all is_fit lines.items ≡ true) }
     ensures later { F.faults files.old ≤ F.faults files.new }
     ensures same { (other : List ℕ) → F.contents files.new other ≡ F.contents files.old other }
 {
     let file = read_file(alloc, files, name, 3)?;
     match read_script(alloc, file.as_slice()) {
-        Ok(Some(lines)) => Ok(lines),
-        Ok(None) => Err(Status::NotYet(3)),
-        Err(_) => Err(Status::NoMemory),
+        Ok(lines) => Ok(lines),
+        Err(ScriptRefusal::Fault(fault)) => Err(Status::Script(fault)),
+        Err(ScriptRefusal::NoMemory) => Err(Status::NoMemory),
     }
+}
+
+/// The options of all rule sets: these, and those of the further options files of these names.
+pub fn read_sets<F: Files>(
+    alloc: Global,
+    files: &mut F,
+    names: &[String],
+    options: Options,
+) -> Result<Vec<Options>, Status>
+    requires { length names.now ≤ 3 }
+    ensures says { AreHeard (λ v. v.items) (sets_heard (options ∷ [])) (HasRisen (F.faults files.old) (F.faults files.new)) (map (λ name. F.contents files.old (string_bytes name)) names.now) result }
+    ensures some { IfOk result (λ sets. 0 < length sets.items) }
+    ensures few { IfOk result (λ sets. length sets.items ≤ 4) }
+    ensures later { F.faults files.old ≤ F.faults files.new }
+    ensures same { (other : List ℕ) → F.contents files.new other ≡ F.contents files.old other }
+{
+    let mut sets = Vec::new(alloc);
+    sets.push(options)?;
+    for name in names {
+        let further = read_options_file(alloc, files, name.as_str(), sets.len() as u8)?;
+        sets.push(further)?;
+    }
+    Ok(sets)
 }

@@ -5,38 +5,35 @@ use std::alloc::{AllocError, Global};
 use std::process::Abort;
 use std::test::Fail;
 
-const LICENCE: &[u8] = b"FEATURE edit acme 2.0 permanent 2 SIGN=00AB\n";
+mod faults;
+mod limits;
+mod rows;
+mod site;
 
-/// What a case hands in and what it wants back: the options file, the script, what is written, and the status.
-#[derive(Clone, Copy)]
-struct Case<'a> {
-    options: &'a [u8],
-    script: &'a [u8],
-    out: &'a [u8],
-    err: &'a [u8],
+/// A file by its name, and what it holds.
+type Held<'a> = (&'a str, &'a [u8]);
+
+/// What a command came to: what it wrote to standard output and to standard error, and its status.
+#[derive(Drop)]
+struct Ended {
+    out: Vec<u8>,
+    err: Vec<u8>,
     status: Status,
 }
 
-fn file(alloc: Global, name: &str, bytes: &[u8]) -> Result<MemFile, AllocError> {
-    Ok(MemFile {
-        name: String::from_str(alloc, name)?,
-        bytes: Vec::from_slice(alloc, bytes)?,
-    })
-}
+/// The words `check licence options`.
+const CHECK: [&str; 3] = ["check", "licence", "options"];
 
-/// The three files of a replay.
-fn three_files(
-    alloc: Global,
-    licence: &[u8],
-    options: &[u8],
-    script: &[u8],
-) -> Result<MemFiles, AllocError> {
-    let mut files = Vec::new(alloc);
-    files.push(file(alloc, "licence", licence)?)?;
-    files.push(file(alloc, "options", options)?)?;
-    files.push(file(alloc, "script", script)?)?;
-    Ok(MemFiles::make(files, Vec::new(alloc)))
-}
+/// The words `replay licence options script`.
+const REPLAY: [&str; 4] = ["replay", "licence", "options", "script"];
+
+/// A replay with three further options files.
+const REPLAY_MORE: [&str; 7] = [
+    "replay", "licence", "options", "script", "more1", "more2", "more3",
+];
+
+/// A licence of one pool with two licences.
+const TWO: &[u8] = b"FEATURE edit acme 2.0 permanent 2 SIGN=00AB\n";
 
 fn words_of(alloc: Global, words: &[&str]) -> Result<Vec<String>, AllocError> {
     let mut made = Vec::new(alloc);
@@ -46,153 +43,88 @@ fn words_of(alloc: Global, words: &[&str]) -> Result<Vec<String>, AllocError> {
     Ok(made)
 }
 
-fn replay_words(alloc: Global) -> Result<Vec<String>, AllocError> {
-    words_of(alloc, &["replay", "licence", "options", "script"])
-}
-
-fn sink(alloc: Global) -> Result<MemSink, AllocError> {
-    MemSink::make(alloc, 4096, Vec::new(alloc))
-}
-
-fn run_case(rt: &impl Abort, alloc: Global, case: &Case<'_>) -> Result<(), Fail> {
-    let words = replay_words(alloc)?;
-    let mut files = three_files(alloc, LICENCE, case.options, case.script)?;
-    let mut out = sink(alloc)?;
-    let mut err = sink(alloc)?;
-    let status = tool(alloc, words.as_slice(), &mut files, &mut out, &mut err);
-    assert_eq!(rt; status, case.status);
-    assert!(rt; out.bytes.as_slice() == case.out);
-    assert!(rt; err.bytes.as_slice() == case.err);
-    Ok(())
-}
-
-#[test]
-fn replay_first(rt: HostRuntime) -> Result<(), Fail> {
-    let cases = [
-        Case {
-            options: b"",
-            script: b"0 0 ann h1 d1 p1 CHECKOUT edit 1.0\n\
-                0 1 bob h2 d2 p2 CHECKOUT edit 1.0\n\
-                0 2 cy h3 d3 p3 CHECKOUT edit 1.0\n\
-                0 0 ann h1 d1 p1 CHECKOUT edit 1.0\n",
-            out: b"GRANTED OPEN #0\nGRANTED OPEN #1\nNOSEAT TAKEN 2 OF 2 #2\nALREADYHELD #3\n",
-            err: b"",
-            status: Status::Done,
-        },
-        Case {
-            options: b"EXCLUDE edit USER ann\nINCLUDE edit USER bob\n",
-            script: b"0 0 ann h1 d1 p1 CHECKOUT edit 1.0\n\
-                0 1 cy h3 d3 p3 CHECKOUT edit 1.0\n\
-                0 2 bob h2 d2 p2 CHECKOUT edit 1.0\n\
-                0 2 bob h2 d2 p2 CHECKIN edit\n\
-                0 2 bob h2 d2 p2 CHECKIN edit\n",
-            out: b"DENIED LINE 1 #0\nDENIED LINE 2 #1\nGRANTED OPEN #2\nRETURNED #3\nNOTHELD #4\n",
-            err: b"",
-            status: Status::Done,
-        },
-        Case {
-            options: b"RESERVE 1 edit USER ann\n",
-            script: b"0 0 ann h1 d1 p1 CHECKOUT edit 1.0\n",
-            out: b"",
-            err: b"options: not yet\n",
-            status: Status::NotYet(2),
-        },
-        Case {
-            options: b"",
-            script: b"0 0 ann h1 d1 p1 CHECKOUT draw 1.0\n0 0 ann h1 d1 p1 CHECKOUT edit 2.1\n",
-            out: b"UNKNOWN\nUNKNOWN\n",
-            err: b"",
-            status: Status::Done,
-        },
-        Case {
-            options: b"",
-            script: b"",
-            out: b"",
-            err: b"",
-            status: Status::Done,
-        },
-        Case {
-            options: b"",
-            script: b"0 0 ann h1 d1 p1 BEAT edit\n",
-            out: b"",
-            err: b"script: not yet\n",
-            status: Status::NotYet(3),
-        },
-    ];
-    for case in &cases {
-        run_case(&rt, rt.alloc(), case)?;
+fn files_of(alloc: Global, held: &[Held<'_>], failing: &[u64]) -> Result<MemFiles, AllocError> {
+    let mut files = Vec::new(alloc);
+    for (name, bytes) in held {
+        files.push(MemFile {
+            name: String::from_str(alloc, name)?,
+            bytes: Vec::from_slice(alloc, bytes)?,
+        })?;
     }
+    Ok(MemFiles::make(files, Vec::from_slice(alloc, failing)?))
+}
+
+/// Runs a command on these files; the reads and the writes of these numbers, counted from 0, fail.
+fn run_failing(
+    alloc: Global,
+    words: &[&str],
+    held: &[Held<'_>],
+    reads: &[u64],
+    writes: &[u64],
+) -> Result<Ended, AllocError> {
+    let words = words_of(alloc, words)?;
+    let mut files = files_of(alloc, held, reads)?;
+    let mut out = MemSink::make(alloc, 262_144, Vec::from_slice(alloc, writes)?)?;
+    let mut err = MemSink::make(alloc, 4096, Vec::new(alloc))?;
+    let status = tool(alloc, words.as_slice(), &mut files, &mut out, &mut err);
+    Ok(Ended {
+        out: out.bytes,
+        err: err.bytes,
+        status,
+    })
+}
+
+fn run(alloc: Global, words: &[&str], held: &[Held<'_>]) -> Result<Ended, AllocError> {
+    run_failing(alloc, words, held, &[], &[])
+}
+
+/// A command that is to end so.
+fn expect(rt: &impl Abort, ended: &Ended, code: u8, out: &[u8], err: &[u8]) {
+    assert_eq!(rt; ended.status.code(), code);
+    assert!(rt; ended.out.as_slice() == out);
+    assert!(rt; ended.err.as_slice() == err);
+}
+
+/// A check of these files that is to end so.
+fn expect_check(
+    rt: &(impl Abort + AllocGlobal),
+    licence: &[u8],
+    options: &[u8],
+    code: u8,
+    err: &[u8],
+) -> Result<(), Fail> {
+    let held = [("licence", licence), ("options", options)];
+    let ended = run(rt.alloc(), &CHECK, &held)?;
+    assert_eq!(rt; ended.status.code(), code);
+    assert!(rt; ended.err.as_slice() == err);
+    assert_eq!(rt; ended.out.is_empty(), code != 0);
     Ok(())
 }
 
 #[test]
 fn words_that_are_no_command(rt: HostRuntime) -> Result<(), Fail> {
-    let cases: [&[&str]; 8] = [
+    let rows: [&[&str]; 16] = [
         &[],
+        &["check"],
+        &["check", "licence"],
+        &["check", "licence", "options", "script"],
+        &["check", "", "options"],
+        &["check", "licence", "-"],
+        &["Check", "licence", "options"],
         &["replay"],
-        &["replay", "a", "b"],
-        &["replay", "a", "b", "c", "d"],
-        &["replay", "", "b", "c"],
-        &["replay", "a", "-b", "c"],
-        &["Replay", "a", "b", "c"],
-        &["check", "a", "b", "c"],
+        &["replay", "licence", "options"],
+        &["replay", "", "options", "script"],
+        &["replay", "licence", "-options", "script"],
+        &["replay", "licence", "options", "script", ""],
+        &["replay", "licence", "options", "script", "a", "b", "-c"],
+        &["replay", "licence", "options", "script", "a", "b", "c", "d"],
+        &["replays", "licence", "options", "script"],
+        &["trial", "licence", "options", "script"],
     ];
-    for case in cases {
-        let words = words_of(rt.alloc(), case)?;
-        let mut files = three_files(rt.alloc(), LICENCE, b"", b"")?;
-        let mut out = sink(rt.alloc())?;
-        let mut err = sink(rt.alloc())?;
-        let status = tool(rt.alloc(), words.as_slice(), &mut files, &mut out, &mut err);
-        assert_eq!(rt; status, Status::Usage);
-        assert_eq!(rt; out.bytes.len(), 0);
-        assert!(rt; err.bytes.as_slice() == b"usage\n".as_slice());
-    }
-    Ok(())
-}
-
-#[test]
-fn an_absent_file_is_a_read_fault(rt: HostRuntime) -> Result<(), Fail> {
-    let cases: [(&str, &[u8]); 3] = [
-        ("licence", b"licence: read fault\n"),
-        ("options", b"options: read fault\n"),
-        ("script", b"script: read fault\n"),
-    ];
-    let names = ["licence", "options", "script"];
-    for (absent, line) in cases {
-        let mut held = Vec::new(rt.alloc());
-        for name in names {
-            if name != absent {
-                let bytes = if name == "licence" { LICENCE } else { b"" };
-                held.push(file(rt.alloc(), name, bytes)?)?;
-            }
-        }
-        let mut files = MemFiles::make(held, Vec::new(rt.alloc()));
-        let words = replay_words(rt.alloc())?;
-        let mut out = sink(rt.alloc())?;
-        let mut err = sink(rt.alloc())?;
-        let status = tool(rt.alloc(), words.as_slice(), &mut files, &mut out, &mut err);
-        assert_eq!(rt; status.code(), 6);
-        assert_eq!(rt; out.bytes.len(), 0);
-        assert!(rt; err.bytes.as_slice() == line);
-    }
-    Ok(())
-}
-
-#[test]
-fn a_write_that_fails_is_a_write_fault(rt: HostRuntime) -> Result<(), Fail> {
-    let script = b"0 0 ann h1 d1 p1 CHECKOUT edit 1.0\n0 0 ann h1 d1 p1 CHECKIN edit\n";
-    let cases: [(u64, &[u8]); 2] = [(0, b""), (1, b"GRANTED OPEN #0\n")];
-    for (failing, written) in cases {
-        let words = replay_words(rt.alloc())?;
-        let mut files = three_files(rt.alloc(), LICENCE, b"", script)?;
-        let failing = [failing].to_vec(rt.alloc())?;
-        let mut out = MemSink::make(rt.alloc(), 4096, failing)?;
-        let mut err = sink(rt.alloc())?;
-        let status = tool(rt.alloc(), words.as_slice(), &mut files, &mut out, &mut err);
-        assert_eq!(rt; status, Status::WriteFault);
-        assert_eq!(rt; status.code(), 7);
-        assert!(rt; out.bytes.as_slice() == written);
-        assert!(rt; err.bytes.as_slice() == b"write fault\n".as_slice());
+    let held = [("licence", TWO), ("options", b""), ("script", b"")];
+    for words in rows {
+        let ended = run(rt.alloc(), words, &held)?;
+        expect(&rt, &ended, 2, b"", b"usage\n");
     }
     Ok(())
 }
@@ -200,11 +132,85 @@ fn a_write_that_fails_is_a_write_fault(rt: HostRuntime) -> Result<(), Fail> {
 #[test]
 fn a_fault_of_standard_error_changes_no_status(rt: HostRuntime) -> Result<(), Fail> {
     let words = words_of(rt.alloc(), &["replay", "a", "b"])?;
-    let mut files = three_files(rt.alloc(), LICENCE, b"", b"")?;
-    let mut out = sink(rt.alloc())?;
+    let mut files = files_of(rt.alloc(), &[], &[])?;
+    let mut out = MemSink::make(rt.alloc(), 16, Vec::new(rt.alloc()))?;
     let mut err = MemSink::make(rt.alloc(), 3, Vec::new(rt.alloc()))?;
     let status = tool(rt.alloc(), words.as_slice(), &mut files, &mut out, &mut err);
-    assert_eq!(rt; status.code(), 2);
+    assert_eq!(rt; status, Status::Usage);
     assert_eq!(rt; err.bytes.len(), 0);
+    Ok(())
+}
+
+/// What the line of a file says where the file of this number, from 0, isn't read.
+const READ_FAULTS: [&[u8]; 6] = [
+    b"licence: read fault\n",
+    b"options: read fault\n",
+    b"script: read fault\n",
+    b"options 1: read fault\n",
+    b"options 2: read fault\n",
+    b"options 3: read fault\n",
+];
+
+/// The first file that is absent, or whose reading fails, is told.
+#[test]
+fn a_file_that_is_not_read_is_a_read_fault(rt: HostRuntime) -> Result<(), Fail> {
+    let held: [Held<'_>; 6] = [
+        ("licence", TWO),
+        ("options", b""),
+        ("script", b""),
+        ("more1", b""),
+        ("more2", b""),
+        ("more3", b""),
+    ];
+    for (number, line) in READ_FAULTS.iter().enumerate() {
+        let ended = run_failing(rt.alloc(), &REPLAY_MORE, &held, &[number as u64], &[])?;
+        expect(&rt, &ended, 6, b"", line);
+        let ended = run(rt.alloc(), &REPLAY_MORE, &held[..number])?;
+        expect(&rt, &ended, 6, b"", line);
+    }
+    let ended = run(rt.alloc(), &CHECK, &held[..1])?;
+    expect(&rt, &ended, 6, b"", b"options: read fault\n");
+    Ok(())
+}
+
+/// The first file at fault decides, and nothing is written before the last one was accepted.
+#[test]
+fn the_first_file_at_fault_decides(rt: HostRuntime) -> Result<(), Fail> {
+    let good: &[u8] = b"0 0 ann h1 d1 p1 CHECKOUT edit 1.0\n";
+    let bad: &[u8] = b"MAX x edit USER ann\n";
+    let rows: [(&[u8], &[u8], &[u8], &[u8], u8, &[u8]); 6] = [
+        (
+            b"PACKET\n",
+            bad,
+            b"0\n",
+            bad,
+            3,
+            b"licence: line 1: bad word 1\n",
+        ),
+        (TWO, bad, b"0\n", bad, 4, b"options: line 1: bad number\n"),
+        (TWO, b"", b"0\n", bad, 5, b"script: line 1: word count\n"),
+        (TWO, b"", good, bad, 4, b"options 1: line 1: bad number\n"),
+        (
+            TWO,
+            b"",
+            good,
+            b"NOLOG\n\n\nEXCLUDE edit GROUP h\n",
+            4,
+            b"options 1: line 4: unknown group\n",
+        ),
+        (TWO, b"", good, b"NOLOG\n", 0, b""),
+    ];
+    for (licence, options, script, more, code, err) in rows {
+        let held = [
+            ("licence", licence),
+            ("options", options),
+            ("script", script),
+            ("more", more),
+        ];
+        let words = ["replay", "licence", "options", "script", "more"];
+        let out: &[u8] = if code == 0 { b"GRANTED OPEN #0\n" } else { b"" };
+        let ended = run(rt.alloc(), &words, &held)?;
+        expect(&rt, &ended, code, out, err);
+    }
     Ok(())
 }

@@ -1,107 +1,36 @@
-ghost use Rattle.std.specs.Prelude.{◌≡◌, ◌≢◌, ◌↔◌, ◌⊎◌, ◌≤◌, ℕ, [], ◌∷◌, IfOk, None, map, string_bytes, true};
-ghost use Rattle.std.specs.List.{list_all};
-ghost use Rattle.options_machine.specs.Rules.{is_plain};
-ghost use Rattle.options_machine.specs.State.{opening};
+ghost use Rattle.std.specs.Prelude.{◌≡◌, ◌≢◌, ◌↔◌, ◌⊎◌, ◌≤◌, ℕ, List, Ok, Err, None, map, string_bytes, true};
 ghost use Rattle.outside.specs.Told.{HasRisen};
-ghost use Rattle.scripts.specs.Fits.{is_fit};
 ghost use Rattle.licence_main.specs.Command.{command_of};
-ghost use Rattle.licence_main.specs.Replay.{AreAccepted, ForFiles, IsFirstNotYet, IsReached, IsRefusedAt, WritesFront, WritesReplay, replayed, sets_of, told_by};
-ghost use Rattle.licence_main.specs.Status.{line_of};
-ghost use Rattle.licence_main.specs.Tool.{GainsLine, ReplaySays, WritingSays};
+ghost use Rattle.licence_main.specs.Files.{are_told};
+ghost use Rattle.licence_main.specs.Outcome.{outcome_of};
+ghost use Rattle.licence_main.specs.Status.{has_own_fault, is_refusal, line_of};
+ghost use Rattle.licence_main.specs.Tool.{Comes, ForFiles, GainsLine, IsSure, WritesAll, WritesFront};
 
-use crate::command::{Command, read_command};
-use crate::reading::{read_lines, read_pool, read_rules};
+use crate::err_line::put_status;
+use crate::perform::perform;
+use crate::room::ROOM;
 use crate::status::Status;
-use first_form::PlainPool;
-use lic_types::{NoMemory, RuleLine};
 use outside::{Files, Sink};
-use policy::{DeskRules, PlainBook};
-use scripts::{ScriptLine, play};
 use std::alloc::Global;
 
-/// How many parties a script may name.
-const PARTIES: u32 = 256;
-
-/// A book of the pool in its opening state.
-fn open_book(alloc: Global, pool: &PlainPool, lines: &[RuleLine]) -> Result<PlainBook, NoMemory>
-    requires plain { list_all is_plain lines.now ≡ true }
-    requires count { pool.now.count ≤ 65535 }
-    ensures { IfOk result (λ book. book ≡ record { sets = sets_of pool.now lines.now; parties = 256; state = opening }) }
+/// Writes a line, unless it is empty.
+fn write_line<E: Sink>(err: &mut E, line: &[u8])
+    ensures { GainsLine (E.held err.old) (E.held err.new) (HasRisen (E.faults err.old) (E.faults err.new)) line.now }
 {
-    let rules = DeskRules::plain(alloc, lines, &pool.name, pool.count)?;
-    PlainBook::make(alloc, rules, PARTIES)
-}
-
-/// Writes what a script is answered at the pool.
-fn answer<O: Sink>(
-    alloc: Global,
-    pool: &PlainPool,
-    lines: &[RuleLine],
-    script: &[ScriptLine],
-    out: &mut O,
-) -> Status
-    requires plain { list_all is_plain lines.now ≡ true }
-    requires count { pool.now.count ≤ 65535 }
-    requires fit { list_all is_fit script.now ≡ true }
-    ensures says { WritingSays (HasRisen (O.faults out.old) (O.faults out.new)) (O.held out.old) (O.held out.new) (replayed pool.now lines.now script.now) result }
-{
-    let Ok(mut book) = open_book(alloc, pool, lines) else {
-        return Status::NoMemory;
-    };
-    match play(pool, script, &mut book, out) {
-        Ok(()) => Status::Done,
-        Err(_) => Status::WriteFault,
+    if !line.is_empty() {
+        let _ = err.write(line);
     }
 }
 
-/// Replays a script against a licence and an options file.
-fn replay<F: Files, O: Sink>(
-    alloc: Global,
-    command: Command<'_>,
-    files: &mut F,
-    out: &mut O,
-) -> Status
-    ensures { ReplaySays
-        (told_by (F.contents files.old) (record { licence = command.entry.licence.now; options = command.entry.options.now; script = command.entry.script.now }))
-        (HasRisen (F.faults files.old) (F.faults files.new))
-        (HasRisen (O.faults out.old) (O.faults out.new))
-        (O.held out.old) (O.held out.new) result }
-{
-    let pool = match read_pool(alloc, files, command.licence) {
-        Ok(pool) => pool,
-        Err(status) => return status,
-    };
-    let lines = match read_rules(alloc, files, command.options) {
-        Ok(lines) => lines,
-        Err(status) => return status,
-    };
-    let script = match read_lines(alloc, files, command.script) {
-        Ok(script) => script,
-        Err(status) => return status,
-    };
-    answer(alloc, &pool, lines.as_slice(), script.as_slice(), out)
-}
-
-/// Does what the words ask for, without the line on standard error.
-fn perform<F: Files, O: Sink>(alloc: Global, words: &[String], files: &mut F, out: &mut O) -> Status
-    ensures usage { (result ≡ Status.Usage) ↔ (command_of (map string_bytes words.now) ≡ None) }
-    ensures refused { result ≡ Status.Usage → O.held out.new ≡ O.held out.old }
-    ensures says { ForFiles (command_of (map string_bytes words.now)) (F.contents files.old) (λ told. ReplaySays told
-        (HasRisen (F.faults files.old) (F.faults files.new))
-        (HasRisen (O.faults out.old) (O.faults out.new))
-        (O.held out.old) (O.held out.new) result) }
-{
-    match read_command(words) {
-        None => Status::Usage,
-        Some(command) => replay(alloc, command, files, out),
-    }
-}
-
-/// Runs one command and ends with its status. `words` are those behind the program's name. What the command writes goes
-/// to `out`, and for every status but `Done` one line goes to `err`; a fault there changes no status.
+/// Runs one command and ends with its status. `words` are those behind the program's name: `check LICENCE OPTIONS`, or
+/// `replay LICENCE OPTIONS SCRIPT` with up to three further options files behind. What the command writes goes to `out`,
+/// and for every status but `Done` one line goes to `err`; a fault there changes no status.
 ///
-/// The order is: the words, then file by file its reading and its form, then the memory for the run, and then the
-/// writing. Want of memory may come at each of these, but not after the first byte was written to `out`.
+/// The order is: the words, then file by file its reading, its length and its grammar, then the memory for the text, and
+/// then the writing. Want of memory may come at each of these, but not after the first byte was written to `out`.
+///
+/// `Comes` says what comes of the files: the text that the command writes, or the status of the first file at fault, in
+/// that order.
 pub fn tool<F: Files, O: Sink, E: Sink>(
     alloc: Global,
     words: &[String],
@@ -112,49 +41,53 @@ pub fn tool<F: Files, O: Sink, E: Sink>(
     // The words aren't in the command set exactly where the status says so.
     ensures usage { (result ≡ Status.Usage) ↔ (command_of (map string_bytes words.now) ≡ None) }
 
-    // On Done out gained exactly the text of the three files.
+    // On Done out gained exactly the text that comes of the files, on WriteFault a front of it, and else nothing.
     ensures done { result ≡ Status.Done
         → ForFiles (command_of (map string_bytes words.now)) (F.contents files.old)
-        (λ told. WritesReplay told (O.held out.old) (O.held out.new)) }
-
-    // On WriteFault out gained a front of that text, and on every other status nothing.
+        (λ told. WritesAll (HasRisen (F.faults files.old) (F.faults files.new)) told (O.held out.old) (O.held out.new)) }
     ensures written { result ≡ Status.WriteFault
         → ForFiles (command_of (map string_bytes words.now)) (F.contents files.old)
-        (λ told. WritesFront told (O.held out.old) (O.held out.new)) }
+        (λ told. WritesFront (HasRisen (F.faults files.old) (F.faults files.new)) told (O.held out.old) (O.held out.new)) }
     ensures unwritten { result ≢ Status.Done → result ≢ Status.WriteFault → O.held out.new ≡ O.held out.old }
+
+    // A status of a file that is refused or too long is what comes of the files, and its fault is never want of memory.
+    ensures refused { is_refusal result ≡ true
+        → ForFiles (command_of (map string_bytes words.now)) (F.contents files.old)
+        (λ told. Comes (HasRisen (F.faults files.old) (F.faults files.new)) told (Err result)) }
+    ensures own_fault { has_own_fault result ≡ true }
+
+    // A read fault comes only where the count of faults rose, at a file before which all were accepted.
+    ensures read_fault { (file : ℕ) → result ≡ Status.ReadFault file
+        → HasRisen (F.faults files.old) (F.faults files.new)
+        × ForFiles (command_of (map string_bytes words.now)) (F.contents files.old)
+        (λ told. Comes (HasRisen (F.faults files.old) (F.faults files.new)) told (Err result)) }
+
+    // A write fault comes only where the count of faults rose.
+    ensures write_fault { result ≡ Status.WriteFault → HasRisen (O.faults out.old) (O.faults out.new) }
 
     // Standard error gained exactly the line of the status, which is none on Done, or a front of it at a fault of its
     // own.
     ensures err_line { GainsLine (E.held err.old) (E.held err.new)
         (HasRisen (E.faults err.old) (E.faults err.new)) (line_of result) }
 
-    // A read fault comes only where the count of faults rose, at a file before which all were accepted.
-    ensures read_fault { (file : ℕ) → result ≡ Status.ReadFault file
-        → HasRisen (F.faults files.old) (F.faults files.new)
-        × ForFiles (command_of (map string_bytes words.now)) (F.contents files.old) (λ told. IsReached told file) }
+    // Where it is told of all files what they hold, just these bytes decide what comes of them.
+    ensures told { ForFiles (command_of (map string_bytes words.now)) (F.contents files.old)
+        (λ told. are_told told ≡ true → IsSure told (outcome_of told)) }
 
-    // A write fault comes only where the count of faults rose.
-    ensures write_fault { result ≡ Status.WriteFault → HasRisen (O.faults out.old) (O.faults out.new) }
-
-    // NotYet names the first file that was read and isn't in the first form, and it comes where there is one and neither
-    // a read fault nor want of memory came before it.
-    ensures not_yet { (file : ℕ) → result ≡ Status.NotYet file
-        → ForFiles (command_of (map string_bytes words.now)) (F.contents files.old) (λ told. IsFirstNotYet told file) }
-    ensures not_yet_comes { (file : ℕ) → ForFiles (command_of (map string_bytes words.now)) (F.contents files.old)
-        (λ told. IsRefusedAt told file → ¬ HasRisen (F.faults files.old) (F.faults files.new)
-        → (result ≡ Status.NotYet file) ⊎ (result ≡ Status.NoMemory)) }
-
-    // Accepted words and files without a fault end in Done, unless memory is wanted.
+    // What surely comes of the files comes, unless memory is wanted or a fault rose: Done with the text, or the status.
     ensures complete { ForFiles (command_of (map string_bytes words.now)) (F.contents files.old)
-        (λ told. AreAccepted told
+        (λ told. (text : List ℕ) → IsSure told (Ok text)
         → ¬ HasRisen (F.faults files.old) (F.faults files.new)
         → ¬ HasRisen (O.faults out.old) (O.faults out.new)
         → (result ≡ Status.Done) ⊎ (result ≡ Status.NoMemory)) }
+    ensures refusal_comes { ForFiles (command_of (map string_bytes words.now)) (F.contents files.old)
+        (λ told. (status : Status) → IsSure told (Err status)
+        → ¬ HasRisen (F.faults files.old) (F.faults files.new)
+        → (result ≡ status) ⊎ (result ≡ Status.NoMemory)) }
 {
     let status = perform(alloc, words, files, out);
-    let line = status.line();
-    if !line.is_empty() {
-        let _ = err.write(line);
-    }
+    let mut room = [0; ROOM];
+    let end = put_status(&mut room, &status);
+    write_line(err, &room[..end]);
     status
 }

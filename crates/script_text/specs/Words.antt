@@ -1,4 +1,4 @@
-use Rattle.std.specs.Prelude.{ℕ, ◌^◌, Bool, true, false, nat_lt, nat_eq, if◌then◌else◌, List, [], ◌∷◌, Option, None, Some, Result, Ok, Err, codes}
+use Rattle.std.specs.Prelude.{ℕ, ◌^◌, nat_lt, nat_eq, if◌then◌else◌, List, [], ◌∷◌, Option, None, Some, Result, Ok, Err, codes}
 use Rattle.std.specs.Cmp.Lexicographic.{pointwise}
 use Rattle.lic_types.specs.Name.{name_of}
 use Rattle.lic_types.specs.Version.{key_of}
@@ -11,6 +11,9 @@ use Rattle.options_machine.specs.declared.reply.Kind.TheVariants.{Checkout, Chec
 use Rattle.audit_log.specs.declared.fault.ScriptWord.{ScriptWord}
 use Rattle.audit_log.specs.declared.fault.ScriptWord.TheVariants.{UnknownWord, WordCount, BadNumber, BadName, BadVersion}
 use Rattle.script_text.specs.declared.line.ScriptLine.{ScriptLine}
+use Rattle.script_text.specs.declared.words.Asked.{Asked}
+use Rattle.script_text.specs.declared.words.Verb.{Verb}
+use Rattle.script_text.specs.declared.words.Verb.TheVariants.{Seat, Other, Reread as Anew}
 
 -- what is made of a result's value; the first fault of a chain decides
 abbrev pub and_then : {X Y : Type 0} → Result X ScriptWord → (X → Result Y ScriptWord) → Result Y ScriptWord
@@ -42,42 +45,51 @@ client_of user host display project =
     Ok (record { user = u; host = h; display = d; project = p })))))
 
 -- what a verb asks for
-abbrev pub kind_of : List ℕ → Result Kind ScriptWord
-kind_of verb =
-    if pointwise nat_eq verb (codes "CHECKOUT") then Ok Checkout
-    else (if pointwise nat_eq verb (codes "CHECKIN") then Ok Checkin
-    else (if pointwise nat_eq verb (codes "BEAT") then Ok Beat
-    else (if pointwise nat_eq verb (codes "LOOK") then Ok Look
-    else (if pointwise nat_eq verb (codes "STATUS") then Ok Count
-    else (if pointwise nat_eq verb (codes "QUIT") then Ok Quit
-    else Err UnknownWord)))))
+abbrev pub verb_of : List ℕ → Result Verb ScriptWord
+verb_of verb =
+    if pointwise nat_eq verb (codes "CHECKOUT") then Ok (Seat Checkout)
+    else (if pointwise nat_eq verb (codes "QUEUE") then Ok (Seat Queue)
+    else (if pointwise nat_eq verb (codes "CHECKIN") then Ok (Other Checkin)
+    else (if pointwise nat_eq verb (codes "BEAT") then Ok (Other Beat)
+    else (if pointwise nat_eq verb (codes "LOOK") then Ok (Other Look)
+    else (if pointwise nat_eq verb (codes "STATUS") then Ok (Other Count)
+    else (if pointwise nat_eq verb (codes "QUIT") then Ok (Other Quit)
+    else (if pointwise nat_eq verb (codes "REREAD") then Ok Anew
+    else Err UnknownWord)))))))
 
--- whether a line of this kind has a version
-abbrev pub is_checkout : Kind → Bool
-is_checkout Checkout = true
-is_checkout Checkin = false
-is_checkout Beat = false
-is_checkout Look = false
-is_checkout Quit = false
-is_checkout Count = false
-is_checkout Queue = false
-is_checkout (Reread n) = false
+-- a seat, by the word for the feature and the words behind it, which are to be the version alone
+abbrev pub seat_asked : Kind → List ℕ → List (List ℕ) → Result Asked ScriptWord
+seat_asked kind feature [] = Err WordCount
+seat_asked kind feature (version ∷ []) =
+    and_then (named (name_of feature)) (λ f.
+    and_then (version_of (key_of version)) (λ v.
+    Ok (record { kind = kind; feature = Some f; version = Some v })))
+seat_asked kind feature (version ∷ next ∷ others) = Err WordCount
 
--- the feature and the version of a line, by whether it is a checkout, its word for the feature and the words behind that
-abbrev pub asked_of : Bool → List ℕ → List (List ℕ) → Result (List ℕ × Option Version) ScriptWord
-asked_of false feature [] = and_then (named (name_of feature)) (λ f. Ok (f, None))
-asked_of false feature (next ∷ others) = Err WordCount
-asked_of true feature [] = Err WordCount
-asked_of true feature (version ∷ []) = and_then (named (name_of feature)) (λ f. and_then (version_of (key_of version)) (λ v. Ok (f, Some v)))
-asked_of true feature (version ∷ next ∷ others) = Err WordCount
+-- anything else of a feature, by its word and the words behind it, which are to be none
+abbrev pub other_asked : Kind → List ℕ → List (List ℕ) → Result Asked ScriptWord
+other_asked kind feature [] = and_then (named (name_of feature)) (λ f. Ok (record { kind = kind; feature = Some f; version = None }))
+other_asked kind feature (next ∷ others) = Err WordCount
 
--- the script line that the words of a line spell: `moment party user host display project VERB feature [version]`
+-- another rule set, by the word for its number and the words behind it, which are to be none
+abbrev pub reread_asked : List ℕ → List (List ℕ) → Result Asked ScriptWord
+reread_asked number [] = and_then (below (2 ^ 32) (number_of number)) (λ n. Ok (record { kind = Reread n; feature = None; version = None }))
+reread_asked number (next ∷ others) = Err WordCount
+
+-- what a line asks, by its verb, the word behind the verb and the words behind that
+abbrev pub asked_of : Verb → List ℕ → List (List ℕ) → Result Asked ScriptWord
+asked_of (Seat kind) word others = seat_asked kind word others
+asked_of (Other kind) word others = other_asked kind word others
+asked_of Anew word others = reread_asked word others
+
+-- the script line that the words of a line spell: `moment party user host display project VERB feature [version]`, or
+-- `moment party user host display project REREAD number`
 abbrev pub line_of_words : ℕ → List (List ℕ) → Result ScriptLine ScriptWord
-line_of_words line (moment ∷ party ∷ user ∷ host ∷ display ∷ project ∷ verb ∷ feature ∷ others) =
+line_of_words line (moment ∷ party ∷ user ∷ host ∷ display ∷ project ∷ verb ∷ word ∷ others) =
     and_then (below (2 ^ 40) (number_of moment)) (λ at.
     and_then (below 256 (number_of party)) (λ asker.
     and_then (client_of user host display project) (λ client.
-    and_then (kind_of verb) (λ kind.
-    and_then (asked_of (is_checkout kind) feature others) (λ asked.
-    Ok (record { line = line; moment = at; party = asker; client = client; kind = kind; feature = Some asked.0; version = asked.1 }))))))
+    and_then (verb_of verb) (λ verb.
+    and_then (asked_of verb word others) (λ asked.
+    Ok (record { line = line; moment = at; party = asker; client = client; kind = asked.kind; feature = asked.feature; version = asked.version }))))))
 line_of_words line words = Err WordCount

@@ -28,11 +28,13 @@ fn read_line(line: Result<Line<'_>, TextFault>) -> Result<ScriptLine, ScriptFaul
 
 /// The lines of a script in their order, each line with words being one of
 ///
-/// - `moment party user host display project CHECKOUT feature version`
+/// - `moment party user host display project VERB feature version`, VERB being CHECKOUT or QUEUE
 /// - `moment party user host display project VERB feature`, VERB being CHECKIN, BEAT, LOOK, STATUS or QUIT
+/// - `moment party user host display project REREAD number`
 ///
-/// in just these capitals. The moment is in seconds since 1970-01-01 UTC and below 2^40, the party is below 256.
-/// STATUS asks for the numbers of the pool (`Kind::Count`). The grammar is this project's own.
+/// in just these capitals. The moment is in seconds since 1970-01-01 UTC and below 2^40, the party is below 256, and the
+/// number is that of a rule set, below 2^32. STATUS asks for the numbers of the pool (`Kind::Count`). The grammar is this
+/// project's own.
 ///
 /// `Fault` comes exactly where a line is at fault, and names the first such line. Its faults are tried in this order:
 ///
@@ -40,9 +42,10 @@ fn read_line(line: Result<Line<'_>, TextFault>) -> Result<ScriptLine, ScriptFaul
 /// 2. `WordCount` where the line has fewer than 8 words.
 /// 3. The first 7 words from left to right: `BadNumber` for a moment or a party that is no number or is out of its
 ///    range, `BadName` for a user, host, display or project that is no name, `UnknownWord` for a verb that isn't one
-///    of the six.
-/// 4. `WordCount` where a checkout hasn't 9 words, or another line hasn't 8.
-/// 5. `BadName` for a feature that is no name.
+///    of the eight.
+/// 4. `WordCount` where a checkout or a queueing hasn't 9 words, or another line hasn't 8.
+/// 5. `BadName` for a feature that is no name, or `BadNumber` for a number of a rule set that is no number or is out of
+///    its range.
 /// 6. `BadVersion` for a version that is none.
 ///
 /// `NoMemory` comes where there is too little memory to hold the lines.
@@ -54,7 +57,7 @@ pub fn read_script(alloc: Global, file: &[u8]) -> Result<Vec<ScriptLine>, Script
     let mut script = Vec::new(alloc);
     for line in lines(file) {
         let line = read_line(line)?;
-        prove!(line.feature.is_some());
+        prove!(line.feature.is_some() || line.version.is_none());
         script.push(line)?;
     }
     Ok(script)

@@ -31,27 +31,33 @@ fn fault_at(line: u32, fault: ScriptWord) -> Option<ScriptRefusal> {
     Some(ScriptRefusal::Fault(ScriptFault { line, fault }))
 }
 
-/// Each line's number, moment, party and kind.
+/// Each line's number, moment, party and kind, and whether it names a feature and a version.
 #[test]
 fn a_script_of_every_verb(rt: HostRuntime) -> Result<(), Fail> {
     let file =
         b"# every verb\r\n0 0 ann h1 d1 p1 CHECKOUT edit 1.0\r\n\t1099511627775  255 bob h2 :0 -  \\\n CHECKIN view\n\
-        007 007 cy h3 :0 - BEAT edit\n7 7 cy h3 :0 - LOOK edit\n7 7 cy h3 :0 - STATUS edit\n7 7 cy h3 :0 - QUIT edit";
+        007 007 cy h3 :0 - BEAT edit\n7 7 cy h3 :0 - LOOK edit\n7 7 cy h3 :0 - STATUS edit\n7 7 cy h3 :0 - QUIT edit\n\
+        8 7 cy h3 :0 - QUEUE edit 1.5\n8 7 cy h3 :0 - REREAD 4294967295\n9 7 cy h3 :0 - REREAD 01";
     let rows = [
-        (2, 0, 0, Kind::Checkout),
-        (3, (1 << 40) - 1, 255, Kind::Checkin),
-        (5, 7, 7, Kind::Beat),
-        (6, 7, 7, Kind::Look),
-        (7, 7, 7, Kind::Count),
-        (8, 7, 7, Kind::Quit),
+        (2, 0, 0, Kind::Checkout, true, true),
+        (3, (1 << 40) - 1, 255, Kind::Checkin, true, false),
+        (5, 7, 7, Kind::Beat, true, false),
+        (6, 7, 7, Kind::Look, true, false),
+        (7, 7, 7, Kind::Count, true, false),
+        (8, 7, 7, Kind::Quit, true, false),
+        (9, 8, 7, Kind::Queue, true, true),
+        (10, 8, 7, Kind::Reread(u32::MAX), false, false),
+        (11, 9, 7, Kind::Reread(1), false, false),
     ];
     let script = read_script(rt.alloc(), file)?;
-    assert_eq!(rt; script.len(), 6);
-    for (found, (line, moment, party, kind)) in script.iter().zip(rows) {
+    assert_eq!(rt; script.len(), 9);
+    for (found, (line, moment, party, kind, feature, version)) in script.iter().zip(rows) {
         assert_eq!(rt; found.line, line);
         assert_eq!(rt; found.moment, moment);
         assert_eq!(rt; found.party, party);
         assert_eq!(rt; found.kind, kind);
+        assert_eq!(rt; found.feature.is_some(), feature);
+        assert_eq!(rt; found.version.is_some(), version);
     }
     Ok(())
 }
@@ -90,8 +96,8 @@ fn the_client_the_feature_and_the_version(rt: HostRuntime) -> Result<(), Fail> {
 
 /// Each fault once, at line 1 and at line 6.
 #[test]
-fn each_fault_of_a_line(rt: HostRuntime) -> Result<(), Fail> {
-    let rows: [(&[u8], ScriptWord); 21] = [
+fn script_faults(rt: HostRuntime) -> Result<(), Fail> {
+    let rows: [(&[u8], ScriptWord); 28] = [
         (b"0\n", ScriptWord::WordCount),
         (b"0 0 ann h1 d1 p1 LOOK\n", ScriptWord::WordCount),
         (b"-1 0 ann h1 d1 p1 LOOK edit\n", ScriptWord::BadNumber),
@@ -107,8 +113,24 @@ fn each_fault_of_a_line(rt: HostRuntime) -> Result<(), Fail> {
         (b"0 0 ann h1 d1 p1\r LOOK edit\n", ScriptWord::BadName),
         (b"0 0 ann h1 d1 p1 look edit\n", ScriptWord::UnknownWord),
         (b"0 0 ann h1 d1 p1 COUNT edit\n", ScriptWord::UnknownWord),
-        (b"0 0 ann h1 d1 p1 QUEUE edit\n", ScriptWord::UnknownWord),
-        (b"0 0 ann h1 d1 p1 REREAD edit\n", ScriptWord::UnknownWord),
+        (
+            b"0 0 ann h1 d1 p1 queue edit 1.0\n",
+            ScriptWord::UnknownWord,
+        ),
+        (b"0 0 ann h1 d1 p1 QUEUE edit\n", ScriptWord::WordCount),
+        (
+            b"0 0 ann h1 d1 p1 QUEUE edit 1.0 x\n",
+            ScriptWord::WordCount,
+        ),
+        (b"0 0 ann h1 d1 p1 QUEUE \x7f 1.0\n", ScriptWord::BadName),
+        (b"0 0 ann h1 d1 p1 QUEUE edit 1.\n", ScriptWord::BadVersion),
+        (b"0 0 ann h1 d1 p1 REREAD\n", ScriptWord::WordCount),
+        (b"0 0 ann h1 d1 p1 REREAD 1 edit\n", ScriptWord::WordCount),
+        (b"0 0 ann h1 d1 p1 REREAD edit\n", ScriptWord::BadNumber),
+        (
+            b"0 0 ann h1 d1 p1 REREAD 4294967296\n",
+            ScriptWord::BadNumber,
+        ),
         (b"0 0 ann h1 d1 p1 CHECKOUT edit\n", ScriptWord::WordCount),
         (
             b"0 0 ann h1 d1 p1 CHECKOUT edit 1.0 x\n",
@@ -143,7 +165,7 @@ fn each_fault_of_a_line(rt: HostRuntime) -> Result<(), Fail> {
 /// Two faults in one line, and then in two lines: the first decides.
 #[test]
 fn the_first_fault_decides(rt: HostRuntime) -> Result<(), Fail> {
-    let rows: [(&[u8], ScriptWord); 12] = [
+    let rows: [(&[u8], ScriptWord); 15] = [
         (b"x 0 ann h1 d1 p1 LOOK\n", ScriptWord::WordCount),
         (b"x 0 \x7f h1 d1 p1 LOOK edit\n", ScriptWord::BadNumber),
         (b"0 256 ann h1 d1 p1 look edit\n", ScriptWord::BadNumber),
@@ -160,6 +182,9 @@ fn the_first_fault_decides(rt: HostRuntime) -> Result<(), Fail> {
             ScriptWord::WordCount,
         ),
         (b"0 0 ann h1 d1 p1 CHECKOUT \x7f 1.\n", ScriptWord::BadName),
+        (b"0 0 ann h1 d1 p1 QUEUE \x7f 1.\n", ScriptWord::BadName),
+        (b"0 0 ann h1 d1 p1 REREAD x 1\n", ScriptWord::WordCount),
+        (b"0 0 ann h1 d1 \x7f REREAD x\n", ScriptWord::BadName),
         (b"0 0 ann h1 d1 p1 look edit\n0\n", ScriptWord::UnknownWord),
         (b"0\n0 0 ann h1 d1 p1 LOOK edit \\", ScriptWord::WordCount),
     ];

@@ -1,12 +1,10 @@
 ghost use Rattle.std.specs.Prelude.{◌≡◌, ◌<◌, ◌^◌, [], ◌∷◌, IfOk, MatchResult, true};
-ghost use Rattle.std.specs.Option.{is_none};
 ghost use Rattle.lic_text.specs.Left.{words_left};
 ghost use Rattle.lic_text.specs.Number.{number_of};
 ghost use Rattle.lic_types.specs.Name.{name_of};
 ghost use Rattle.lic_types.specs.Version.{key_of};
-ghost use Rattle.options_machine.specs.Step.{set_asked};
-ghost use Rattle.script_text.specs.Fits.{has_its_version, is_fit};
-ghost use Rattle.script_text.specs.Words.{asked_of, below, client_of, is_checkout, kind_of, line_of_words, named, version_of};
+ghost use Rattle.script_text.specs.Fits.{has_its_words, is_fit, is_kind_of_verb, is_of_other, is_of_seat};
+ghost use Rattle.script_text.specs.Words.{asked_of, below, client_of, line_of_words, named, other_asked, reread_asked, seat_asked, verb_of, version_of};
 
 use crate::line::ScriptLine;
 use audit_log::ScriptWord;
@@ -19,6 +17,9 @@ const MOMENT_LIMIT: u64 = 1 << 40;
 
 /// Parties are below this.
 const PARTY_LIMIT: u64 = 256;
+
+/// The numbers of rule sets are below this.
+const SET_LIMIT: u64 = 1 << 32;
 
 /// The next word of a line, which is to have one.
 fn next_word<'a>(words: &mut Words<'a>) -> Result<&'a [u8], ScriptWord>
@@ -73,59 +74,117 @@ fn read_client(
     })
 }
 
+/// What a verb asks for, and so which words are to stand behind it.
+#[derive(Clone, Copy)]
+pub(crate) enum Verb {
+    /// A seat: a feature and a version.
+    Seat(Kind),
+    /// Anything else of a feature, which stands alone.
+    Other(Kind),
+    /// Another rule set: its number.
+    Reread,
+}
+
+/// What a line asks, of which feature, and from which version on.
+#[derive(Clone, Copy)]
+pub(crate) struct Asked {
+    kind: Kind,
+    feature: Option<Name>,
+    version: Option<Version>,
+}
+
 /// What a verb asks for.
-fn read_kind(verb: &[u8]) -> Result<Kind, ScriptWord>
-    ensures kind { result ≡ kind_of verb.now }
-    ensures asks_no_set { IfOk result (λ kind. is_none (set_asked kind) ≡ true) }
+fn read_verb(verb: &[u8]) -> Result<Verb, ScriptWord>
+    ensures verb { result ≡ verb_of verb.now }
+    ensures kind { IfOk result (λ verb. is_kind_of_verb verb ≡ true) }
 {
     if verb == b"CHECKOUT".as_slice() {
-        Ok(Kind::Checkout)
+        Ok(Verb::Seat(Kind::Checkout))
+    } else if verb == b"QUEUE".as_slice() {
+        Ok(Verb::Seat(Kind::Queue))
     } else if verb == b"CHECKIN".as_slice() {
-        Ok(Kind::Checkin)
+        Ok(Verb::Other(Kind::Checkin))
     } else if verb == b"BEAT".as_slice() {
-        Ok(Kind::Beat)
+        Ok(Verb::Other(Kind::Beat))
     } else if verb == b"LOOK".as_slice() {
-        Ok(Kind::Look)
+        Ok(Verb::Other(Kind::Look))
     } else if verb == b"STATUS".as_slice() {
-        Ok(Kind::Count)
+        Ok(Verb::Other(Kind::Count))
     } else if verb == b"QUIT".as_slice() {
-        Ok(Kind::Quit)
+        Ok(Verb::Other(Kind::Quit))
+    } else if verb == b"REREAD".as_slice() {
+        Ok(Verb::Reread)
     } else {
         Err(ScriptWord::UnknownWord)
     }
 }
 
-/// Whether a line of this kind has a version.
-fn is_checkout(kind: Kind) -> bool
-    ensures { result ≡ is_checkout kind }
-{
-    matches!(kind, Kind::Checkout)
-}
-
-/// The feature and the version of a line, of which the words behind the feature are left.
-fn read_asked(
-    kind: Kind,
-    feature: &[u8],
-    words: Words<'_>,
-) -> Result<(Name, Option<Version>), ScriptWord>
-    ensures asked { result ≡ asked_of (is_checkout kind) feature.now (words_left words.entry) }
-    ensures version { IfOk result (λ asked. has_its_version (is_checkout kind) asked.1 ≡ true) }
+/// The version behind a feature, which is to be the last word.
+fn read_seat(kind: Kind, feature: &[u8], words: Words<'_>) -> Result<Asked, ScriptWord>
+    requires { is_of_seat kind ≡ true }
+    ensures asked { result ≡ seat_asked kind feature.now (words_left words.entry) }
+    ensures fit { IfOk result (λ asked. has_its_words asked.kind asked.feature asked.version ≡ true) }
 {
     let mut words = words;
-    if !is_checkout(kind) {
-        if words.next().is_some() {
-            return Err(ScriptWord::WordCount);
-        }
-        let feature = read_name(feature)?;
-        return Ok((feature, None));
-    }
     let version = next_word(&mut words)?;
     if words.next().is_some() {
         return Err(ScriptWord::WordCount);
     }
     let feature = read_name(feature)?;
     let version = read_version(version)?;
-    Ok((feature, Some(version)))
+    Ok(Asked {
+        kind,
+        feature: Some(feature),
+        version: Some(version),
+    })
+}
+
+/// A feature, which is to be the last word.
+fn read_other(kind: Kind, feature: &[u8], words: Words<'_>) -> Result<Asked, ScriptWord>
+    requires { is_of_other kind ≡ true }
+    ensures asked { result ≡ other_asked kind feature.now (words_left words.entry) }
+    ensures fit { IfOk result (λ asked. has_its_words asked.kind asked.feature asked.version ≡ true) }
+{
+    let mut words = words;
+    if words.next().is_some() {
+        return Err(ScriptWord::WordCount);
+    }
+    let feature = read_name(feature)?;
+    Ok(Asked {
+        kind,
+        feature: Some(feature),
+        version: None,
+    })
+}
+
+/// The number of a rule set, which is to be the last word.
+fn read_reread(number: &[u8], words: Words<'_>) -> Result<Asked, ScriptWord>
+    ensures asked { result ≡ reread_asked number.now (words_left words.entry) }
+    ensures fit { IfOk result (λ asked. has_its_words asked.kind asked.feature asked.version ≡ true) }
+{
+    let mut words = words;
+    if words.next().is_some() {
+        return Err(ScriptWord::WordCount);
+    }
+    let number = read_below(number, SET_LIMIT)?;
+    Ok(Asked {
+        kind: Kind::Reread(number as u32),
+        feature: None,
+        version: None,
+    })
+}
+
+/// What a line asks, of which the words behind the eighth are left.
+fn read_asked(verb: Verb, word: &[u8], words: Words<'_>) -> Result<Asked, ScriptWord>
+    requires { is_kind_of_verb verb ≡ true }
+    ensures asked { result ≡ asked_of verb word.now (words_left words.entry) }
+    ensures fit { IfOk result (λ asked. has_its_words asked.kind asked.feature asked.version ≡ true) }
+{
+    match verb {
+        Verb::Seat(kind) => read_seat(kind, word, words),
+        Verb::Other(kind) => read_other(kind, word, words),
+        Verb::Reread => read_reread(word, words),
+    }
 }
 
 /// The script line that the words of a line spell, or the line's first fault.
@@ -141,19 +200,19 @@ pub(crate) fn read_words(line: u32, words: Words<'_>) -> Result<ScriptLine, Scri
     let display = next_word(&mut words)?;
     let project = next_word(&mut words)?;
     let verb = next_word(&mut words)?;
-    let feature = next_word(&mut words)?;
+    let word = next_word(&mut words)?;
     let moment = read_below(moment, MOMENT_LIMIT)?;
     let party = read_below(party, PARTY_LIMIT)?;
     let client = read_client(user, host, display, project)?;
-    let kind = read_kind(verb)?;
-    let (feature, version) = read_asked(kind, feature, words)?;
+    let verb = read_verb(verb)?;
+    let asked = read_asked(verb, word, words)?;
     Ok(ScriptLine {
         line,
         moment,
         party: party as u32,
         client,
-        kind,
-        feature: Some(feature),
-        version,
+        kind: asked.kind,
+        feature: asked.feature,
+        version: asked.version,
     })
 }

@@ -1,7 +1,6 @@
-pub mod Fits
+pub mod Desks
 pub mod Laws
-pub mod Places
+pub mod Ledgers
 pub mod Played
-pub mod Reading
 pub mod Script
 pub mod Written

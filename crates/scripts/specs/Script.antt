@@ -1,34 +1,28 @@
-use Rattle.std.specs.Prelude.{ℕ, Bool, true, ◌&&◌, ◌||◌, nat_le, if◌then◌else◌, List, [], ◌∷◌, ◌++◌, length, Option, None, Some, codes, decimal}
+use Rattle.std.specs.Prelude.{ℕ, zero, suc, Bool, ◌&&◌, ◌||◌, nat_lt, if◌then◌else◌, List, [], ◌∷◌, ◌++◌, length, map, Option, None, Some, codes, decimal, slice_get}
+use Rattle.std.specs.List.{position_from}
+use Rattle.feature_lines.specs.Route.{route}
+use Rattle.feature_lines.specs.declared.pool.Pool.{Pool}
+use Rattle.feature_lines.specs.declared.route.Found.{Found}
+use Rattle.feature_lines.specs.declared.route.Found.TheVariants.{Pool as At, Unknown, Expired}
+use Rattle.lic_types.specs.Days.{day_text}
 use Rattle.lic_types.specs.Groups.{same_name}
 use Rattle.lic_types.specs.declared.version.Version.{Version}
 use Rattle.options_machine.specs.Own.{holds, queues}
 use Rattle.options_machine.specs.Rules.{Rules}
 use Rattle.options_machine.specs.Run.{after}
 use Rattle.options_machine.specs.Settle.{moved}
-use Rattle.options_machine.specs.Step.{step}
+use Rattle.options_machine.specs.Step.{set_asked, step}
 use Rattle.options_machine.specs.declared.reply.Entry.{Entry}
 use Rattle.options_machine.specs.declared.reply.Reply.{Reply}
 use Rattle.options_machine.specs.declared.reply.Request.{Request}
+use Rattle.options_text.specs.Options.{OptionsFile}
 use Rattle.policy.specs.Words.{reply_text}
-use Rattle.first_form.specs.declared.licence.PlainPool.{PlainPool}
-use Rattle.scripts.specs.declared.line.ScriptLine.{ScriptLine}
+use Rattle.script_text.specs.declared.line.ScriptLine.{ScriptLine}
+use Rattle.scripts.specs.Ledgers.{Ledger, opened_all}
 
 -- the request of a line
 abbrev pub request_of : ScriptLine → Request
 request_of line = record { party = line.party; client = line.client; kind = line.kind }
-
--- whether the standing reply of the party in a run is of holding or of queueing
-abbrev pub keeps_place : List Entry → ℕ → Bool
-keeps_place h party = holds h party || queues h party
-
--- whether a version is high enough for a line; any is for a line that asks for none
-abbrev pub is_high_enough : Version → Option Version → Bool
-is_high_enough version None = true
-is_high_enough version (Some asked) = nat_le asked.key version.key
-
--- whether a line finds the pool after a run of it: it names the pool's feature, and its party keeps a place there or the pool's version is high enough
-abbrev pub finds : PlainPool → List Entry → ScriptLine → Bool
-finds pool h line = same_name line.feature pool.name && (keeps_place h line.party || is_high_enough pool.version line.version)
 
 -- the entry that a line makes after a run: its moment is the later of the run's and the line's own, and its reply is the machine's
 abbrev pub entry_of : List Rules → List Entry → ScriptLine → Entry
@@ -38,32 +32,93 @@ entry_of sets h line = record {
   reply = (step sets (after sets h) (request_of line) (moved (after sets h).now line.moment)).0;
 }
 
--- the run with the entry that a line makes, if it finds the pool
-abbrev pub run_with : PlainPool → List Rules → List Entry → ScriptLine → List Entry
-run_with pool sets h line = if finds pool h line then h ++ entry_of sets h line ∷ [] else h
+-- the ledger with the entry that a line makes there
+abbrev pub entered : ScriptLine → Ledger → Ledger
+entered line ledger = record ledger { run = ledger.run ++ entry_of ledger.sets ledger.run line ∷ [] }
+
+-- whether the pool is of this name, and the standing reply of the party there is of holding or of queueing
+abbrev pub keeps_place : List ℕ → ℕ → Ledger → Bool
+keeps_place name party ledger = same_name ledger.pool.name name && (holds ledger.run party || queues ledger.run party)
+
+abbrev pub found_or : Option ℕ → Found → Found
+found_or (Some at) other = At at
+found_or None other = other
+
+-- where a line of a party that keeps no place goes: with a version to the pool that serves it at the line's own moment, and else to the first pool of the name
+abbrev pub routed : List Ledger → List ℕ → ℕ → Option Version → Found
+routed ledgers name moment (Some version) = route (map (λ (l : Ledger). l.pool) ledgers) name version.key moment
+routed ledgers name moment None = found_or (position_from (λ (l : Ledger). same_name l.pool.name name) 0 ledgers) Unknown
+
+-- where a line that names a feature goes: to the first pool of the name at which its party keeps a place, if there is one
+abbrev pub sent_to : List Ledger → ScriptLine → List ℕ → Found
+sent_to ledgers line name = found_or (position_from (keeps_place name line.party) 0 ledgers) (routed ledgers name line.moment line.version)
+
+-- where a line goes
+abbrev pub sent : List Ledger → ScriptLine → Option (List ℕ) → Found
+sent ledgers line None = Unknown
+sent ledgers line (Some name) = sent_to ledgers line name
+
+-- a list, changed at one place
+abbrev pub changed_at : {X : Type 0} → ℕ → (X → X) → List X → List X
+changed_at at f [] = []
+changed_at zero f (x ∷ xs) = f x ∷ xs
+changed_at (suc at) f (x ∷ xs) = x ∷ changed_at at f xs
+
+-- the ledgers after a line that went there
+abbrev pub after_sent : List Ledger → ScriptLine → Found → List Ledger
+after_sent ledgers line (At at) = changed_at at (entered line) ledgers
+after_sent ledgers line Unknown = ledgers
+after_sent ledgers line (Expired day) = ledgers
+
+-- the ledgers after a line, where there are so many rule sets: one that asks for a rule set that there is makes an entry at each pool
+abbrev pub after_asked : ℕ → List Ledger → ScriptLine → Option ℕ → List Ledger
+after_asked sets ledgers line None = after_sent ledgers line (sent ledgers line line.feature)
+after_asked sets ledgers line (Some n) = if nat_lt n sets then map (entered line) ledgers else ledgers
+
+abbrev pub after_line : ℕ → List Ledger → ScriptLine → List Ledger
+after_line sets ledgers line = after_asked sets ledgers line (set_asked line.kind)
 
 -- the output line of a reply: its words, and the place of its entry
 abbrev pub reply_line : Reply → ℕ → List ℕ
 reply_line reply place = reply_text reply ++ codes " #" ++ decimal place ++ 10 ∷ []
 
--- the output line of a script line: that of its entry's reply, whose place is the number of entries before it
-abbrev pub output_line : PlainPool → List Rules → List Entry → ScriptLine → List ℕ
-output_line pool sets h line = if finds pool h line then reply_line (entry_of sets h line).reply (length h) else codes "UNKNOWN\n"
+-- the output line of the entry that a line makes there; its place is the number of entries before it
+abbrev pub entry_line : ScriptLine → Option Ledger → List ℕ
+entry_line line None = []
+entry_line line (Some ledger) = reply_line (entry_of ledger.sets ledger.run line).reply (length ledger.run)
 
--- the run that script lines make after a run, each at the run that those before it made
-abbrev pub run_from : PlainPool → List Rules → List Entry → List ScriptLine → List Entry
-run_from pool sets h [] = h
-run_from pool sets h (line ∷ lines) = run_from pool sets (run_with pool sets h line) lines
+-- the output line of a line that went there
+abbrev pub sent_line : List Ledger → ScriptLine → Found → List ℕ
+sent_line ledgers line (At at) = entry_line line (slice_get ledgers at)
+sent_line ledgers line Unknown = codes "UNKNOWN\n"
+sent_line ledgers line (Expired day) = codes "EXPIRED " ++ day_text day ++ 10 ∷ []
 
--- the output lines of script lines after a run, one for each
-abbrev pub output_from : PlainPool → List Rules → List Entry → List ScriptLine → List ℕ
-output_from pool sets h [] = []
-output_from pool sets h (line ∷ lines) = output_line pool sets h line ++ output_from pool sets (run_with pool sets h line) lines
+-- the output line of a line that asks for a rule set, where there are so many
+abbrev pub set_line : ℕ → ℕ → List ℕ
+set_line sets n = (if nat_lt n sets then codes "REREAD " else codes "NORULES ") ++ decimal n ++ 10 ∷ []
 
--- the run that a script makes at the pool
-abbrev pub run_of : PlainPool → List Rules → List ScriptLine → List Entry
-run_of pool sets lines = run_from pool sets [] lines
+abbrev pub line_asked : ℕ → List Ledger → ScriptLine → Option ℕ → List ℕ
+line_asked sets ledgers line None = sent_line ledgers line (sent ledgers line line.feature)
+line_asked sets ledgers line (Some n) = set_line sets n
+
+-- the output line of a script line
+abbrev pub output_line : ℕ → List Ledger → ScriptLine → List ℕ
+output_line sets ledgers line = line_asked sets ledgers line (set_asked line.kind)
+
+-- the output lines of script lines, one for each
+abbrev pub output_from : ℕ → List Ledger → List ScriptLine → List ℕ
+output_from sets ledgers [] = []
+output_from sets ledgers (line ∷ lines) = output_line sets ledgers line ++ output_from sets (after_line sets ledgers line) lines
+
+-- the ledgers after script lines
+abbrev pub ledgers_from : ℕ → List Ledger → List ScriptLine → List Ledger
+ledgers_from sets ledgers [] = ledgers
+ledgers_from sets ledgers (line ∷ lines) = ledgers_from sets (after_line sets ledgers line) lines
+
+-- the ledgers that a script leaves at these pools, by the rules of these options files
+abbrev pub ledgers_of : List Pool → List OptionsFile → List ScriptLine → List Ledger
+ledgers_of pools files lines = ledgers_from (length files) (opened_all pools files) lines
 
 -- what a script writes
-abbrev pub output_of : PlainPool → List Rules → List ScriptLine → List ℕ
-output_of pool sets lines = output_from pool sets [] lines
+abbrev pub output_of : List Pool → List OptionsFile → List ScriptLine → List ℕ
+output_of pools files lines = output_from (length files) (opened_all pools files) lines

@@ -1,15 +1,17 @@
-//! Scripts of requests: their reading, and their run against the rules of a pool.
+//! Scripts of requests: their run against the pools of a licence, by the rules of one options file or several.
 #![tactic(auto)]
 
+mod answers;
+mod desk;
+mod fault;
 mod laws;
-mod line;
+mod making;
 mod playing;
-mod reading;
+mod routing;
 
-pub use laws::scripts_are_runs;
-pub use line::ScriptLine;
+pub use fault::PlayFault;
+pub use laws::{scripts_are_lawful, scripts_are_runs};
 pub use playing::play;
-pub use reading::read_script;
 
 #[cfg(test)]
 mod tests;

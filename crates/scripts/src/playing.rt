@@ -1,130 +1,187 @@
-ghost use Rattle.std.specs.Prelude.{◌≡◌, ◌+◌, ◌<◌, ◌≤◌, ◌++◌, ◌||◌, [], ◌∷◌, OnOk, OnErr, length, take, nat_le, unwrap_or, slice_get, false, true};
+ghost use Rattle.std.specs.Prelude.{◌≡◌, ◌≢◌, ◌≤◌, ◌<◌, Err, None, OnErr, OnOk, Some, length, map, true};
 ghost use Rattle.std.specs.List.{list_all};
-ghost use Rattle.lic_types.specs.Groups.{same_name};
-ghost use Rattle.options_machine.specs.Own.{is_of_holding, is_of_queueing};
-ghost use Rattle.options_machine.specs.State.{opening};
+ghost use Rattle.options_machine.specs.Run.{IsBelow};
+ghost use Rattle.options_machine.specs.Step.{set_asked};
 ghost use Rattle.outside.specs.Told.{HasRisen, TakesFront, told_with};
-ghost use Rattle.policy.specs.Words.{reply_text};
-ghost use Rattle.scripts.specs.Script.{is_high_enough, output_of, reply_line};
-ghost use Rattle.scripts.specs.Fits.{is_fit};
-ghost use Rattle.scripts.specs.Places.{finds_at};
+ghost use Rattle.script_text.specs.Fits.{is_fit};
+ghost use Rattle.scripts.specs.Desks.{desk_of, desks_after, desks_reread, desks_sent, entered_at, is_ready, line_at, line_sent, sent_by};
+ghost use Rattle.scripts.specs.Script.{output_of, set_line};
 
-use crate::line::ScriptLine;
-use first_form::PlainPool;
-use itoa::Buffer;
-use options_machine::{Reply, Request};
+use crate::answers::{write_expired_line, write_reply_line, write_set_line};
+use crate::desk::Desk;
+use crate::fault::PlayFault;
+use crate::making::make_desks;
+use crate::routing::find;
+use feature_lines::{Found, Licence};
+use options_text::Options;
 use outside::{Sink, WriteFailed};
-use policy::{PlainBook, reply_words};
+use script_text::ScriptLine;
+use std::alloc::Global;
 
-/// Whether a reply says that its party holds a seat, or waits for one.
-fn keeps_place(reply: &Reply) -> bool
-    ensures { result ≡ (is_of_holding reply.now || is_of_queueing reply.now) }
+/// Makes the entry of a line at each desk, in their order.
+fn enter_each(sets: usize, desks: &mut [Desk], line: &ScriptLine)
+    requires party { line.now.party < 256 }
+    requires fits { IsBelow (set_asked line.now.kind) sets }
+    requires ready { list_all (is_ready sets) desks.old ≡ true }
+    ensures { desks.new ≡ map (entered_at line.now) desks.old }
 {
-    match reply {
-        Reply::Granted(_) => true,
-        Reply::Retaken(_) => true,
-        Reply::AlreadyHeld => true,
-        Reply::Beaten => true,
-        Reply::Held => true,
-        Reply::Queued(_) => true,
-        Reply::Counts { own, queued, .. } => *own || *queued,
-        Reply::Denied(_) => false,
-        Reply::NoSeat(_, _) => false,
-        Reply::Returned => false,
-        Reply::Lingering(_) => false,
-        Reply::NotHeld => false,
-        Reply::Unqueued => false,
-        Reply::Reread(_) => false,
+    for desk in desks.iter_mut() {
+        desk.enter(line);
     }
 }
 
-/// Whether a line finds the pool, where `places` tells which parties keep a place there.
-fn finds(pool: &PlainPool, places: &[bool], line: &ScriptLine) -> bool
-    ensures { result ≡ finds_at pool.now places.now line.now }
-{
-    if line.feature != pool.name {
-        return false;
-    }
-    if places.get(line.party as usize).copied().unwrap_or(false) {
-        return true;
-    }
-    match line.version {
-        None => true,
-        Some(asked) => asked.key <= pool.version.key,
-    }
-}
-
-/// Writes a text behind the first bytes, and gives the place behind it.
-fn put(room: &mut [u8], at: usize, text: &[u8]) -> usize
-    requires { at + length text.now ≤ length room.old }
-    ensures place { result ≡ at + length text.now }
-    ensures written { take result room.new ≡ take at room.old ++ text.now }
-{
-    let end = at + text.len();
-    room[at..end].copy_from_slice(text);
-    end
-}
-
-/// Writes the output line of a reply into a room, and gives how many bytes it takes.
-fn put_reply_line(reply: &Reply, place: u64, room: &mut [u8; 256]) -> usize
-    ensures place { result ≤ 256 }
-    ensures written { take result room.new ≡ reply_line reply.now place }
-{
-    let mut words = [0u8; 160];
-    let len = reply_words(reply, &mut words);
-    let mut buffer = Buffer::new();
-    let at = put(room, 0, &words[..len]);
-    let at = put(room, at, b" #");
-    let at = put(room, at, buffer.format(place).as_bytes());
-    put(room, at, b"\n")
-}
-
-/// Writes the output line of a reply to a sink.
-fn write_reply_line<O: Sink>(out: &mut O, reply: &Reply, place: u64) -> Result<(), WriteFailed>
-    ensures ok { OnOk result (O.held out.new ≡ told_with (O.held out.old) (reply_line reply.now place)) }
-    ensures err { OnErr result (TakesFront (O.held out.old) (O.held out.new) (reply_line reply.now place)) }
+/// Plays a line that asks for a rule set.
+fn play_reread<O: Sink>(
+    sets: usize,
+    desks: &mut [Desk],
+    line: &ScriptLine,
+    set: u32,
+    out: &mut O,
+) -> Result<(), WriteFailed>
+    requires party { line.now.party < 256 }
+    requires asked { set_asked line.now.kind ≡ Some set }
+    requires ready { list_all (is_ready sets) desks.old ≡ true }
+    ensures desks { desks.new ≡ desks_reread sets desks.old line.now set }
+    ensures ok { OnOk result (O.held out.new ≡ told_with (O.held out.old) (set_line sets set)) }
+    ensures err { OnErr result (TakesFront (O.held out.old) (O.held out.new) (set_line sets set)) }
     ensures failed { OnErr result (HasRisen (O.faults out.old) (O.faults out.new)) }
     ensures steady { OnOk result (O.faults out.new ≡ O.faults out.old) }
     ensures later { O.faults out.old ≤ O.faults out.new }
 {
-    let mut room = [0u8; 256];
-    let len = put_reply_line(reply, place, &mut room);
-    out.write(&room[..len])
+    if (set as usize) < sets {
+        enter_each(sets, desks, line);
+    }
+    write_set_line(out, sets, set)
 }
 
-/// Runs a script on a book of the pool in its opening state, and writes one output line for each of its lines, in order.
-/// Where a write fails, a front of these was written.
-pub fn play<O: Sink>(
-    pool: &PlainPool,
+/// Plays a line at the desk of this place.
+fn play_at<O: Sink>(
+    sets: usize,
+    desks: &mut [Desk],
+    line: &ScriptLine,
+    at: usize,
+    out: &mut O,
+) -> Result<(), WriteFailed>
+    requires there { at < length desks.old }
+    requires party { line.now.party < 256 }
+    requires asked { set_asked line.now.kind ≡ None }
+    requires ready { list_all (is_ready sets) desks.old ≡ true }
+    ensures desks { desks.new ≡ desks_sent desks.old line.now (Found.Pool at) }
+    ensures ok { OnOk result (O.held out.new ≡ told_with (O.held out.old) (line_sent desks.old line.now (Found.Pool at))) }
+    ensures err { OnErr result (TakesFront (O.held out.old) (O.held out.new) (line_sent desks.old line.now (Found.Pool at))) }
+    ensures failed { OnErr result (HasRisen (O.faults out.old) (O.faults out.new)) }
+    ensures steady { OnOk result (O.faults out.new ≡ O.faults out.old) }
+    ensures later { O.faults out.old ≤ O.faults out.new }
+{
+    let desk = &mut desks[at];
+    let place = desk.entries;
+    let reply = desk.enter(line);
+    write_reply_line(out, &reply, place)
+}
+
+/// Plays a line that asks for no rule set.
+fn play_request<O: Sink>(
+    licence: &Licence,
+    sets: usize,
+    desks: &mut [Desk],
+    line: &ScriptLine,
+    out: &mut O,
+) -> Result<(), WriteFailed>
+    requires pools { length licence.now.pools ≡ length desks.old }
+    requires party { line.now.party < 256 }
+    requires asked { set_asked line.now.kind ≡ None }
+    requires ready { list_all (is_ready sets) desks.old ≡ true }
+    ensures desks { desks.new ≡ desks_sent desks.old line.now (sent_by licence.now.pools desks.old line.now line.now.feature) }
+    ensures ok { OnOk result (O.held out.new ≡ told_with (O.held out.old) (line_sent desks.old line.now (sent_by licence.now.pools desks.old line.now line.now.feature))) }
+    ensures err { OnErr result (TakesFront (O.held out.old) (O.held out.new) (line_sent desks.old line.now (sent_by licence.now.pools desks.old line.now line.now.feature))) }
+    ensures failed { OnErr result (HasRisen (O.faults out.old) (O.faults out.new)) }
+    ensures steady { OnOk result (O.faults out.new ≡ O.faults out.old) }
+    ensures later { O.faults out.old ≤ O.faults out.new }
+{
+    match find(licence, desks, line) {
+        Found::Pool(at) => play_at(sets, desks, line, at, out),
+        Found::Unknown => out.write(b"UNKNOWN\n"),
+        Found::Expired(day) => write_expired_line(out, &day),
+    }
+}
+
+/// Plays a line: makes its entries, and writes its output line.
+fn play_line<O: Sink>(
+    licence: &Licence,
+    sets: usize,
+    desks: &mut [Desk],
+    line: &ScriptLine,
+    out: &mut O,
+) -> Result<(), WriteFailed>
+    requires pools { length licence.now.pools ≡ length desks.old }
+    requires party { line.now.party < 256 }
+    requires ready { list_all (is_ready sets) desks.old ≡ true }
+    ensures desks { desks.new ≡ desks_after sets licence.now.pools desks.old line.now }
+    ensures ok { OnOk result (O.held out.new ≡ told_with (O.held out.old) (line_at sets licence.now.pools desks.old line.now)) }
+    ensures err { OnErr result (TakesFront (O.held out.old) (O.held out.new) (line_at sets licence.now.pools desks.old line.now)) }
+    ensures failed { OnErr result (HasRisen (O.faults out.old) (O.faults out.new)) }
+    ensures steady { OnOk result (O.faults out.new ≡ O.faults out.old) }
+    ensures later { O.faults out.old ≤ O.faults out.new }
+{
+    match line.kind.set_asked() {
+        Some(set) => play_reread(sets, desks, line, set, out),
+        None => play_request(licence, sets, desks, line, out),
+    }
+}
+
+/// Plays the lines of a script at the desks of a licence's pools, before any of them has an entry.
+fn play_lines<O: Sink>(
+    licence: &Licence,
+    options: &[Options],
+    desks: &mut [Desk],
     lines: &[ScriptLine],
-    book: &mut PlainBook,
     out: &mut O,
 ) -> Result<(), WriteFailed>
     requires fit { list_all is_fit lines.now ≡ true }
-    requires opening { book.old.state ≡ opening }
-    requires parties { book.old.parties ≡ 256 }
-    ensures ok { OnOk result (O.held out.new ≡ told_with (O.held out.old) (output_of pool.now book.old.sets lines.now)) }
-    ensures err { OnErr result (TakesFront (O.held out.old) (O.held out.new) (output_of pool.now book.old.sets lines.now)) }
+    requires opened { desks.old ≡ map (desk_of options.now) licence.now.pools }
+    ensures ok { OnOk result (O.held out.new ≡ told_with (O.held out.old) (output_of licence.now.pools options.now lines.now)) }
+    ensures err { OnErr result (TakesFront (O.held out.old) (O.held out.new) (output_of licence.now.pools options.now lines.now)) }
     ensures failed { OnErr result (HasRisen (O.faults out.old) (O.faults out.new)) }
     ensures steady { OnOk result (O.faults out.new ≡ O.faults out.old) }
     ensures later { O.faults out.old ≤ O.faults out.new }
 {
-    let mut places = [false; 256];
-    let mut entries = 0u64;
     for line in lines {
-        if finds(pool, &places, line) {
-            let request = Request {
-                party: line.party,
-                client: line.client,
-                kind: line.kind,
-            };
-            let (reply, _) = book.step(&request, line.moment);
-            write_reply_line(out, &reply, entries)?;
-            entries += 1;
-            places[line.party as usize] = keeps_place(&reply);
-        } else {
-            out.write(b"UNKNOWN\n")?;
-        }
+        play_line(licence, options.len(), desks, line, out)?;
     }
+    Ok(())
+}
+
+/// Plays a script on the pools of a licence, each with one rule set for each of the options files, and writes one output
+/// line for each of its lines, in order. The set of number 0 holds at first. Where a write fails, a front of these lines
+/// was written.
+///
+/// A REREAD line makes an entry at each pool and is answered `REREAD n`, where there is a set of its number, and else
+/// `NORULES n`. Any other line goes to the first pool of its feature's name at which its party holds a seat or waits by
+/// the last reply to it there that no REREAD line got; where there is none, with a version to the pool that
+/// `Licence::find` gives at the line's own moment, and without one to the first pool of the name. Its answer is the
+/// reply's words with the place of its entry in the pool, from 0, or `UNKNOWN`, or `EXPIRED d-mmm-yyyy`, where no entry
+/// is made. These lines are this project's own.
+///
+/// `WriteFailed` comes exactly where a write fails. `NoMemory` comes where there is too little memory for the books of the
+/// pools; all memory is taken before the first write.
+pub fn play<O: Sink>(
+    alloc: Global,
+    licence: &Licence,
+    options: &[Options],
+    lines: &[ScriptLine],
+    out: &mut O,
+) -> Result<(), PlayFault>
+    requires fit { list_all is_fit lines.now ≡ true }
+    requires some { 0 < length options.now }
+    requires few { length options.now ≤ 4 }
+    ensures ok { OnOk result (O.held out.new ≡ told_with (O.held out.old) (output_of licence.now.pools options.now lines.now)) }
+    ensures front { result ≡ Err PlayFault.WriteFailed → TakesFront (O.held out.old) (O.held out.new) (output_of licence.now.pools options.now lines.now) }
+    ensures failed { result ≡ Err PlayFault.WriteFailed → HasRisen (O.faults out.old) (O.faults out.new) }
+    ensures memory { result ≡ Err PlayFault.NoMemory → O.held out.new ≡ O.held out.old }
+    ensures steady { result ≢ Err PlayFault.WriteFailed → O.faults out.new ≡ O.faults out.old }
+    ensures later { O.faults out.old ≤ O.faults out.new }
+{
+    let mut desks = make_desks(alloc, licence.pools(), options)?;
+    play_lines(licence, options, desks.as_mut_slice(), lines, out)?;
     Ok(())
 }

@@ -1,22 +1,29 @@
-use Rattle.licence_main.proofs.Clauses.{complete, not_yet, not_yet_comes, read_fault, unwritten}
+use Rattle.licence_main.proofs.Clauses.{complete, own_fault, read_fault, refusal_comes, refused, told, unwritten}
 use Rattle.licence_main.proofs.tool.tool.Goals as goal
 
-pub returns-then-not-is_empty-clause-unwritten : goal.returns-then-not-is_empty-clause-unwritten
-returns-then-not-is_empty-clause-unwritten g c =
-    unwritten _ _ _ _ _ _ _ (record { usage = c.perform-status.ensures.usage.1; refused = c.perform-status.ensures.refused; says = c.perform-status.ensures.says })
+pub returns-clause-told : goal.returns-clause-told
+returns-clause-told g c = told _ _
 
-pub returns-then-not-is_empty-clause-read_fault : goal.returns-then-not-is_empty-clause-read_fault
-returns-then-not-is_empty-clause-read_fault g c =
-    read_fault _ _ _ _ _ _ _ (record { usage = c.perform-status.ensures.usage.1; refused = c.perform-status.ensures.refused; says = c.perform-status.ensures.says })
+pub returns-clause-unwritten : goal.returns-clause-unwritten
+returns-clause-unwritten g c =
+    unwritten _ _ _ _ _ _ _ (record { usage = c.perform-status.ensures.usage.1; unwritten = c.perform-status.ensures.unwritten; says = c.perform-status.ensures.says })
 
-pub returns-then-not-is_empty-clause-not_yet : goal.returns-then-not-is_empty-clause-not_yet
-returns-then-not-is_empty-clause-not_yet g c =
-    not_yet _ _ _ _ _ _ _ (record { usage = c.perform-status.ensures.usage.1; refused = c.perform-status.ensures.refused; says = c.perform-status.ensures.says })
+pub returns-clause-refused : goal.returns-clause-refused
+returns-clause-refused g c =
+    refused _ _ _ _ _ _ _ (record { usage = c.perform-status.ensures.usage.1; unwritten = c.perform-status.ensures.unwritten; says = c.perform-status.ensures.says })
 
-pub returns-then-not-is_empty-clause-not_yet_comes : goal.returns-then-not-is_empty-clause-not_yet_comes
-returns-then-not-is_empty-clause-not_yet_comes g c =
-    not_yet_comes _ _ _ _ _ _ _ (record { usage = c.perform-status.ensures.usage.1; refused = c.perform-status.ensures.refused; says = c.perform-status.ensures.says })
+pub returns-clause-own_fault : goal.returns-clause-own_fault
+returns-clause-own_fault g c =
+    own_fault _ _ _ _ _ _ _ (record { usage = c.perform-status.ensures.usage.1; unwritten = c.perform-status.ensures.unwritten; says = c.perform-status.ensures.says })
 
-pub returns-then-not-is_empty-clause-complete : goal.returns-then-not-is_empty-clause-complete
-returns-then-not-is_empty-clause-complete g c =
-    complete _ _ _ _ _ _ _ (record { usage = c.perform-status.ensures.usage.1; refused = c.perform-status.ensures.refused; says = c.perform-status.ensures.says })
+pub returns-clause-read_fault : goal.returns-clause-read_fault
+returns-clause-read_fault g c =
+    read_fault _ _ _ _ _ _ _ (record { usage = c.perform-status.ensures.usage.1; unwritten = c.perform-status.ensures.unwritten; says = c.perform-status.ensures.says })
+
+pub returns-clause-complete : goal.returns-clause-complete
+returns-clause-complete g c =
+    complete _ _ _ _ _ _ _ (record { usage = c.perform-status.ensures.usage.1; unwritten = c.perform-status.ensures.unwritten; says = c.perform-status.ensures.says })
+
+pub returns-clause-refusal_comes : goal.returns-clause-refusal_comes
+returns-clause-refusal_comes g c =
+    refusal_comes _ _ _ _ _ _ _ (record { usage = c.perform-status.ensures.usage.1; unwritten = c.perform-status.ensures.unwritten; says = c.perform-status.ensures.says })

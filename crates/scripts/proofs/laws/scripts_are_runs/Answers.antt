@@ -1,6 +1,5 @@
-use Rattle.std.proofs.Common.{[], arith}
-use Rattle.scripts.proofs.Plays.{runs_on}
+use Rattle.scripts.proofs.Runs.{scripts_run}
 use Rattle.scripts.proofs.laws.scripts_are_runs.Goals as goal
 
 pub returns : goal.returns
-returns c = λ pool sets lines fit. runs_on pool sets [] lines (omega arith) fit tt
+returns c = λ pools files lines fit. scripts_run pools files lines

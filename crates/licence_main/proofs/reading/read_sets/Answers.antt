@@ -1,0 +1,54 @@
+use Rattle.std.proofs.Common.{◌≡◌, ◌∙◌, string_bytes, arith, length}
+use Rattle.std.proofs.lemmas.Result.{err_from_is_err_and}
+use Rattle.licence_main.proofs.Checks.{wider}
+use Rattle.licence_main.proofs.Hearing.{refusal_wider}
+use Rattle.licence_main.proofs.Replays.{rises}
+use Rattle.licence_main.proofs.Sets.{all_heard, one_more, one_refused, sets_without_memory}
+use Rattle.licence_main.proofs.Words.{same_length}
+use Rattle.licence_main.proofs.reading.read_sets.Goals as goal
+
+pub returns-in_err-push-clause-says : goal.returns-in_err-push-clause-says
+returns-in_err-push-clause-says g c =
+    let p = err_from_is_err_and c.from_residual.result c.from_residual.ensures.1 in
+    rw (p.1, p.2) (sets_without_memory (λ v. v.items) _ _ c.args.options)
+
+pub returns-in_err-push-2-clause-says : goal.returns-in_err-push-2-clause-says
+returns-in_err-push-2-clause-says g c =
+    let p = err_from_is_err_and c.from_residual-in_err-push-2.result c.from_residual-in_err-push-2.ensures.1 in
+    rw (p.1, p.2) (sets_without_memory (λ v. v.items) _ _ c.args.options)
+
+pub returns-in_err-further-clause-says : goal.returns-in_err-further-clause-says
+returns-in_err-further-clause-says g c =
+    let p = err_from_is_err_and c.from_residual-in_err-further.result c.from_residual-in_err-further.ensures.1 in
+    let r = c.in_err-further.ensures.says in
+    let f0 = g.F.Files.faults c.args.files.now in
+    let f1 = g.F.Files.faults c.loop-name.files in
+    let f2 = g.F.Files.faults c.read_options_file.new.files in
+    let name = c.name-item.result in
+    let place : c.len.result ≡ length c.loop-name.sets.items = omega (arith, c.len.ensures, c.loop-name.sets.ok.0) in
+    rw (p.1, p.2) (one_refused (λ v. v.items) (λ n. g.F.Files.contents c.args.files.now (string_bytes n)) c.args.names.now _ _ c.loop-name.name-index name c.args.options c.loop-name.sets.items r.reading _ c.len.result
+    c.loop-name.invariant.heard (rises f0 f0 f1 f2 (omega arith) c.in_err-further.ensures.later) c.loop-name-test.true c.name-item.is
+    (wider _ _ _ _ r.reading (rw c.as_str.ensures.value (c.loop-name.invariant.same (string_bytes name))) (rises f0 f1 f2 f2 c.loop-name.invariant.later (omega arith)) r.is)
+    place (refusal_wider _ _ _ _ (rises f0 f1 f2 f2 c.loop-name.invariant.later (omega arith)) r.says))
+
+pub loop-name-preserved : goal.loop-name-preserved
+loop-name-preserved g c = record {
+  heard =
+      let r = c.in_ok-further.ensures.says in
+      let f0 = g.F.Files.faults c.args.files.now in
+      let f1 = g.F.Files.faults c.loop-name.files in
+      let f2 = g.F.Files.faults c.read_options_file.new.files in
+      let name = c.name-item.result in
+      let place : c.len.result ≡ length c.loop-name.sets.items = omega (arith, c.len.ensures, c.loop-name.sets.ok.0) in
+      rw c.in_ok-push-2.ensures.items (one_more (λ n. g.F.Files.contents c.args.files.now (string_bytes n)) c.args.names.now _ _ c.loop-name.name-index name c.args.options c.loop-name.sets.items r.reading c.in_ok-further.further c.len.result
+      c.loop-name.invariant.heard (rises f0 f0 f1 f2 (omega arith) c.in_ok-further.ensures.later) c.loop-name-test.true c.name-item.is
+      (wider _ _ _ _ r.reading (rw c.as_str.ensures.value (c.loop-name.invariant.same (string_bytes name))) (rises f0 f1 f2 f2 c.loop-name.invariant.later (omega arith)) r.is)
+      place r.says);
+  later = omega (arith, c.loop-name.invariant.later, c.in_ok-further.ensures.later);
+  same = λ other. c.in_ok-further.ensures.same other ∙ c.loop-name.invariant.same other;
+}
+
+pub returns-clause-says : goal.returns-clause-says
+returns-clause-says g c =
+    all_heard (λ v. v.items) _ _ c.loop-name.name-index c.args.options c.loop-name.sets c.loop-name.invariant.heard
+    (omega (arith, same_length (λ n. g.F.Files.contents c.args.files.now (string_bytes n)) c.args.names.now, c.loop-name-test.false))

@@ -1,0 +1,69 @@
+use Rattle.std.specs.Prelude.{ℕ, ◌+◌, nat_lt, if◌then◌else◌, ◌==◌, List, [], ◌∷◌, ◌++◌, length, None, Some, Result, Ok, Err}
+use Rattle.check_text.specs.Check.{check_of}
+use Rattle.feature_lines.specs.Licence.{Contents, licence_of}
+use Rattle.options_text.specs.Answers.{◌>>=◌}
+use Rattle.options_text.specs.Options.{OptionsFile, options_of}
+use Rattle.options_text.specs.declared.fault.OptionsFault.{OptionsFault}
+use Rattle.script_text.specs.Script.{script_of}
+use Rattle.script_text.specs.declared.line.ScriptLine.{ScriptLine}
+use Rattle.scripts.specs.Script.{output_of}
+use Rattle.licence_main.specs.Command.{CheckFiles, CommandOf, Check, Replay, ReplayFiles}
+use Rattle.licence_main.specs.Files.{Bytes}
+use Rattle.licence_main.specs.declared.status.Status.{Status}
+use Rattle.licence_main.specs.declared.status.Status.TheVariants.{Licence, Options, MoreOptions, Script, ReadFault, FileTooLong}
+
+-- the bytes of the file at this position, unless its reading failed or it is longer than 1,048,576 bytes
+abbrev pub heard : ℕ → Bytes → Result (List ℕ) Status
+heard position None = Err (ReadFault position)
+heard position (Some bytes) = if nat_lt 1048576 (length bytes) then Err (FileTooLong position) else Ok bytes
+
+-- what a file says, or the status of its fault
+abbrev pub accepted : {X E : Type 0} → (E → Status) → Result X E → Result X Status
+accepted refused (Ok x) = Ok x
+accepted refused (Err fault) = Err (refused fault)
+
+-- the licence file, which is the first
+unfoldable pub licence_heard : Bytes → Result Contents Status
+licence_heard reading = heard 1 reading >>= λ bytes. accepted Licence (licence_of bytes)
+
+-- the position of the options file of a rule set: OPTIONS has number 0 and stands second, the further ones stand behind the script
+abbrev pub position_of_set : ℕ → ℕ
+position_of_set set = if set == 0 then 2 else 3 + set
+
+-- the status where the options file of a rule set is refused
+abbrev pub options_status : ℕ → OptionsFault → Status
+options_status set fault = if set == 0 then Options fault else MoreOptions set fault
+
+-- the options file of the rule set of this number
+unfoldable pub options_heard : ℕ → Bytes → Result OptionsFile Status
+options_heard set reading = heard (position_of_set set) reading >>= λ bytes. accepted (options_status set) (options_of bytes)
+
+-- the script, which is the third file
+unfoldable pub script_heard : Bytes → Result (List ScriptLine) Status
+script_heard reading = heard 3 reading >>= λ bytes. accepted Script (script_of bytes)
+
+-- the options of these rule sets, and behind them those of the further options files, each of which is of the rule set whose number is how many stand before it
+unfoldable pub sets_heard : List OptionsFile → List Bytes → Result (List OptionsFile) Status
+sets_heard sets [] = Ok sets
+sets_heard sets (reading ∷ readings) = options_heard (length sets) reading >>= λ options. sets_heard (sets ++ options ∷ []) readings
+
+-- what comes of a check: its text, or the status of the first file at fault
+abbrev pub check_outcome : CheckFiles Bytes → Result (List ℕ) Status
+check_outcome readings =
+    licence_heard readings.licence >>= λ licence.
+    (options_heard 0 readings.options >>= λ options.
+    Ok (check_of licence options))
+
+-- what comes of a replay: the output of its script, or the status of the first file at fault
+abbrev pub replay_outcome : ReplayFiles Bytes → Result (List ℕ) Status
+replay_outcome readings =
+    licence_heard readings.licence >>= λ licence.
+    (options_heard 0 readings.options >>= λ options.
+    (script_heard readings.script >>= λ script.
+    (sets_heard (options ∷ []) readings.more >>= λ sets.
+    Ok (output_of licence.pools sets script))))
+
+-- what comes of a command by what is read of its files: the text that it writes, or the status of the first file at fault
+abbrev pub outcome_of : CommandOf Bytes → Result (List ℕ) Status
+outcome_of (Check readings) = check_outcome readings
+outcome_of (Replay readings) = replay_outcome readings

@@ -1,0 +1,105 @@
+ghost use Rattle.std.specs.Prelude.{◌≡◌, ◌+◌, ◌≤◌, ◌++◌, codes, decimal, length, take};
+ghost use Rattle.licence_main.specs.FaultText.{licence_line, licence_text, options_line, options_text};
+ghost use Rattle.licence_main.specs.Status.{fault_line, file_called, line_of, set_called};
+
+use crate::fault_text::{licence_line, options_line, options_text, put_licence_text};
+use crate::room::{ROOM, put, put_number};
+use crate::status::Status;
+use audit_log::ScriptFault;
+use feature_lines::LicenceFault;
+use options_text::OptionsFault;
+
+/// Writes what the options file of a rule set behind the first is called.
+fn put_set(room: &mut [u8; ROOM], set: u8) -> usize
+    ensures place { result ≤ 28 }
+    ensures written { take result room.new ≡ set_called set }
+{
+    let at = put(room, 0, b"options ");
+    put_number(room, at, u32::from(set))
+}
+
+/// Writes what the file at a position is called.
+fn put_file(room: &mut [u8; ROOM], file: u8) -> usize
+    ensures place { result ≤ 28 }
+    ensures written { take result room.new ≡ file_called file }
+{
+    match file {
+        1 => put(room, 0, b"licence"),
+        2 => put(room, 0, b"options"),
+        3 => put(room, 0, b"script"),
+        _ => put_set(room, file.saturating_sub(3)),
+    }
+}
+
+/// Writes the number of a line at fault behind what its file is called.
+fn put_line(room: &mut [u8; ROOM], at: usize, line: u32) -> usize
+    requires { at ≤ 28 }
+    ensures place { result ≤ at + 29 }
+    ensures written { take result room.new ≡ take at room.old ++ codes ": line " ++ decimal line ++ codes ": " }
+{
+    let at = put(room, at, b": line ");
+    let at = put_number(room, at, line);
+    put(room, at, b": ")
+}
+
+fn put_licence_fault(room: &mut [u8; ROOM], fault: &LicenceFault) -> usize
+    ensures place { result ≤ 96 }
+    ensures written { take result room.new ≡ fault_line (codes "licence") (licence_line fault.now) (licence_text fault.now) }
+{
+    let at = put(room, 0, b"licence");
+    let at = put_line(room, at, licence_line(fault));
+    let at = put_licence_text(room, at, fault);
+    put(room, at, b"\n")
+}
+
+/// Writes the fault of an options file behind what the file is called.
+fn put_options_fault(room: &mut [u8; ROOM], at: usize, fault: &OptionsFault) -> usize
+    requires { at ≤ 28 }
+    ensures place { result ≤ 96 }
+    ensures written { take result room.new ≡ fault_line (take at room.old) (options_line fault.now) (options_text fault.now) }
+{
+    let at = put_line(room, at, options_line(fault));
+    let at = put(room, at, options_text(fault));
+    put(room, at, b"\n")
+}
+
+fn put_script_fault(room: &mut [u8; ROOM], fault: &ScriptFault) -> usize
+    ensures place { result ≤ 96 }
+    ensures written { take result room.new ≡ line_of (Status.Script fault.now) }
+{
+    let at = put(room, 0, b"script");
+    let at = put_line(room, at, fault.line);
+    let at = put(room, at, fault.fault.text().as_bytes());
+    put(room, at, b"\n")
+}
+
+/// Writes the line for standard error, which is none for `Done`, and gives its length.
+pub fn put_status(room: &mut [u8; ROOM], status: &Status) -> usize
+    ensures place { result ≤ 96 }
+    ensures written { take result room.new ≡ line_of status.now }
+{
+    match status {
+        Status::Done => 0,
+        Status::Usage => put(room, 0, b"usage\n"),
+        Status::Licence(fault) => put_licence_fault(room, fault),
+        Status::Options(fault) => {
+            let at = put_file(room, 2);
+            put_options_fault(room, at, fault)
+        }
+        Status::MoreOptions(set, fault) => {
+            let at = put_set(room, *set);
+            put_options_fault(room, at, fault)
+        }
+        Status::Script(fault) => put_script_fault(room, fault),
+        Status::ReadFault(file) => {
+            let at = put_file(room, *file);
+            put(room, at, b": read fault\n")
+        }
+        Status::WriteFault => put(room, 0, b"write fault\n"),
+        Status::NoMemory => put(room, 0, b"no memory\n"),
+        Status::FileTooLong(file) => {
+            let at = put_file(room, *file);
+            put(room, at, b": longer than 1048576 bytes\n")
+        }
+    }
+}

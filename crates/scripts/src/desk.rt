@@ -1,0 +1,70 @@
+ghost use Rattle.std.specs.Prelude.{◌≡◌, ◌-◌, ◌<◌, ◌^◌, length};
+ghost use Rattle.options_machine.specs.Run.{AsksForSet};
+ghost use Rattle.scripts.specs.Desks.{answer_at, entered_at, keeps_at, places_with, says_place};
+ghost use Rattle.scripts.specs.Script.{request_of};
+
+use feature_lines::Pool;
+use lic_types::Name;
+use options_machine::{Reply, Request};
+use policy::PlainBook;
+use script_text::ScriptLine;
+
+/// How many parties a script may speak of.
+pub(crate) const PARTIES: u32 = 256;
+
+/// A pool while a script is played: its book, and what the lines so far left there.
+#[derive(Drop)]
+pub(crate) struct Desk {
+    pub(crate) pool: Pool,
+    pub(crate) book: PlainBook,
+    /// How many entries were made there.
+    pub(crate) entries: u64,
+    /// Which parties keep a place there: those whose standing reply is of holding or of queueing.
+    pub(crate) places: [bool; 256],
+}
+
+/// Whether a reply says that its party holds a seat, or waits for one.
+fn keeps_place(reply: &Reply) -> bool
+    ensures { result ≡ says_place reply.now }
+{
+    reply.is_of_holding() || reply.is_of_queueing()
+}
+
+/// Notes whether the party of a line keeps a place after a reply. A line that asks for a rule set moves no party's place.
+fn note_place(places: &mut [bool; 256], line: &ScriptLine, reply: &Reply)
+    requires party { line.now.party < 256 }
+    ensures { places.new ≡ places_with places.old line.now reply.now }
+{
+    if line.kind.set_asked().is_none() {
+        places[line.party as usize] = keeps_place(reply);
+    }
+}
+
+impl Desk {
+    /// Whether the pool is of the name and the party keeps a place there.
+    pub(crate) fn keeps(&self, name: &Name, party: u32) -> bool
+        ensures { result ≡ keeps_at name.now party self.now }
+    {
+        self.pool.name == *name && self.places.get(party as usize).copied().unwrap_or(false)
+    }
+
+    /// Makes the entry of a line, and gives its reply.
+    pub(crate) fn enter(&mut self, line: &ScriptLine) -> Reply
+        requires party { line.now.party < 256 }
+        requires parties { self.old.book.parties ≡ 256 }
+        requires fits { AsksForSet self.old.book.sets (request_of line.now) }
+        requires few { self.old.entries < 2 ^ 64 - 1 }
+        ensures entered { self.new ≡ entered_at line.now self.old }
+        ensures reply { result ≡ (answer_at line.now self.old).0 }
+    {
+        let request = Request {
+            party: line.party,
+            client: line.client,
+            kind: line.kind,
+        };
+        let (reply, _) = self.book.step(&request, line.moment);
+        self.entries += 1;
+        note_place(&mut self.places, line, &reply);
+        reply
+    }
+}
