@@ -1,0 +1,17 @@
+pub mod Members
+pub mod Places
+pub mod Keeps
+pub mod StageWords
+pub mod BitWords
+pub mod CardWords
+pub mod Split
+pub mod Deals
+pub mod Start
+pub mod Join
+pub mod Gathers
+pub mod Close
+pub mod Collects
+pub mod Entries
+pub mod Rules
+pub mod Hands
+pub mod Seats

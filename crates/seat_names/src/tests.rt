@@ -1,0 +1,7 @@
+mod party;
+mod rows;
+mod safety;
+mod schedules;
+mod stops;
+mod threads;
+mod trial;
