@@ -8,4 +8,3 @@ pub mod Passes
 pub mod Sound
 pub mod Routes
 pub mod Faults
-pub mod NameSets

@@ -12,7 +12,8 @@ use Rattle.lic_types.specs.declared.note.Note.{Note}
 use Rattle.lic_types.specs.declared.note.NoteKind.TheVariants.{SecondFeature, NodeLocked, NotServed}
 use Rattle.feature_lines.specs.Licence.{Contents, IsFaultOf, Judged, count_fault, counted, counted_in, fault_in, first_some, has_line, is_feature_of, is_second, licence_in, line_key, note_in, notes_of, pools_of, some_or, total, unless_fault, with_before}
 use Rattle.feature_lines.specs.Line.{at_most_65535, feature_of, granted, judged, keyword_of, or_fault, said_by, said_of, terms_of, with_word}
-use Rattle.feature_lines.specs.Steps.{Sofar, added, added_to, blank, counted_or_locked, has_name, noted, passed, raised, stepped, taken, with_name, with_pools}
+use Rattle.lic_types.specs.NameSets.{has_name, with_name}
+use Rattle.feature_lines.specs.Steps.{Sofar, added, added_to, blank, counted_or_locked, noted, passed, raised, stepped, taken, with_pools}
 use Rattle.feature_lines.specs.declared.fault.LicenceFault.{LicenceFault}
 use Rattle.feature_lines.specs.declared.fault.LicenceFault.TheVariants.{BadCount, TooManyPools}
 use Rattle.feature_lines.specs.declared.line.FeatureLine.{FeatureLine}
@@ -23,7 +24,7 @@ use Rattle.feature_lines.specs.declared.line.Terms.{Terms}
 use Rattle.feature_lines.specs.declared.pool.Pool.{Pool}
 use Rattle.feature_lines.proofs.Faults.{fault_too}
 use Rattle.feature_lines.proofs.Keys.{same_name_is}
-use Rattle.feature_lines.proofs.NameSets.{has_with}
+use Rattle.lic_types.proofs.NameSets.{has_with}
 use Rattle.feature_lines.proofs.Sums.{no_total, none_of_key, one_of_key, pools_more, pools_new, told_push}
 
 -- The one pass comes to what the definition of a licence says.

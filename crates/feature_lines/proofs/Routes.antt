@@ -1,4 +1,4 @@
-use Rattle.std.proofs.Common.{◌≡◌, ℕ, ◌+◌, Bool, true, false, ◌&&◌, ◌||◌, cond, List, [], ◌∷◌, Option, None, Some, refl, ap, ◌∙◌}
+use Rattle.std.proofs.Common.{◌≡◌, ℕ, suc, ◌+◌, ◌<◌, Bool, true, false, ◌&&◌, ◌||◌, cond, List, [], ◌∷◌, length, Option, None, Some, refl, ap, arith, ◌∙◌}
 use Rattle.std.specs.List.{find, list_any, position_from}
 use Rattle.std.specs.Option.{option_map}
 use Rattle.lic_types.specs.declared.day.Expiry.{Expiry}
@@ -45,3 +45,12 @@ first_never t moment (x ∷ xs) i p h is never =
 pub never_serves : (t : Pool → Bool) (moment : ℕ) (pools : List Pool) (o : Option Pool) → find t pools ≡ o → position_from (λ q. t q && is_good moment q.expiry) 0 pools ≡ None → option_map (λ (p : Pool). p.expiry) o ≡ Some Never → ⊥
 never_serves t moment pools None is none h = cc
 never_serves t moment pools (Some p) is none h = let never : p.expiry ≡ Never = cc in first_never t moment pools 0 p none is never
+
+within_or : (i n at : ℕ) (b : Bool) (rest : Option ℕ) → (rest ≡ Some at → at < i + 1 + n) → cond b (Some i) rest ≡ Some at → at < i + suc n
+within_or i n at true rest h e = let same : i ≡ at = cc in omega arith
+within_or i n at false rest h e = omega (arith, h e)
+
+-- the place that is found is one in the list
+pub position_within : {X : Type 0} (p : X → Bool) (i : ℕ) (xs : List X) (at : ℕ) → position_from p i xs ≡ Some at → at < i + length xs
+position_within p i [] at e = absurd cc
+position_within p i (x ∷ xs) at e = within_or i (length xs) at (p x) (position_from p (i + 1) xs) (position_within p (i + 1) xs at) e

@@ -1,4 +1,4 @@
-use Rattle.std.specs.Prelude.{ℕ, Bool, true, ◌&&◌, nat_le, pos, ◌+ℤ◌, ◌*ℤ◌, int_lt, List, find, Option, None, Some, option_map}
+use Rattle.std.specs.Prelude.{ℕ, ◌<◌, Bool, true, ◌&&◌, nat_le, pos, ◌+ℤ◌, ◌*ℤ◌, int_lt, List, find, Option, None, Some, option_map}
 use Rattle.std.specs.List.{position_from}
 use Rattle.lic_types.specs.Groups.{same_name}
 use Rattle.lic_types.specs.declared.day.Expiry.{Expiry}
@@ -34,3 +34,9 @@ found_at None expiry = not_served expiry
 abbrev pub route : List Pool → List ℕ → ℕ → ℕ → Found
 route pools name version moment =
     found_at (position_from (serves name version moment) 0 pools) (option_map (λ (p : Pool). p.expiry) (find (is_new_enough name version) pools))
+
+-- where a pool is found among so many, its place is one of theirs
+abbrev pub IsThere : ℕ → Found → Type 0
+IsThere n (At i) = i < n
+IsThere n Unknown = Unit {0}
+IsThere n (Expired day) = Unit {0}

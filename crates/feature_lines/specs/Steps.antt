@@ -1,10 +1,5 @@
 use Rattle.std.specs.Prelude.{ℕ, ◌+◌, Bool, nat_lt, ◌==◌, if◌then◌else◌, List, [], ◌∷◌, ◌++◌, length, find, Option, None, Some, Result, Ok, Err}
-use Rattle.std.specs.BTreeSet.{insert_key}
-use Rattle.std.specs.Cmp.Lexicographic.{slice_cmp}
-use Rattle.std.specs.List.{list_any}
-use Rattle.std.specs.Ordering.{nat_cmp}
-use Rattle.std.specs.declared.cmp.Ordering.{Ordering}
-use Rattle.lic_types.specs.Groups.{same_name}
+use Rattle.lic_types.specs.NameSets.{has_name, with_name}
 use Rattle.lic_types.specs.declared.note.Note.{Note}
 use Rattle.lic_types.specs.declared.note.NoteKind.{NoteKind}
 use Rattle.lic_types.specs.declared.note.NoteKind.TheVariants.{SecondFeature, NodeLocked, NotServed}
@@ -12,7 +7,6 @@ use Rattle.feature_lines.specs.declared.fault.LicenceFault.{LicenceFault}
 use Rattle.feature_lines.specs.declared.fault.LicenceFault.TheVariants.{BadCount, TooManyPools}
 use Rattle.feature_lines.specs.declared.line.FeatureLine.{FeatureLine}
 use Rattle.feature_lines.specs.declared.line.Said.TheVariants.{Nothing, NotServed as Unserved, Feature}
-use Rattle.feature_lines.specs.declared.names.FeatureName.{FeatureName}
 use Rattle.feature_lines.specs.declared.pool.Pool.{Pool}
 use Rattle.feature_lines.specs.Licence.{Judged, PoolKey, line_key, pool_key, pool_with, same_key}
 
@@ -22,18 +16,7 @@ use Rattle.feature_lines.specs.Licence.{Judged, PoolKey, line_key, pool_key, poo
 pub record Sofar : Type 0 where
   pub pools : List Pool
   pub notes : List Note
-  pub features : List FeatureName
-
--- whether some FEATURE line has the name
-abbrev pub has_name : List ℕ → List FeatureName → Bool
-has_name name names = list_any (λ (k : FeatureName). same_name name k.name) names
-
-abbrev pub byte_order : FeatureName → FeatureName → Ordering
-byte_order a b = slice_cmp nat_cmp a.name b.name
-
--- the names with one more, at its place in the order of their bytes
-abbrev pub with_name : List FeatureName → List ℕ → List FeatureName
-with_name names name = insert_key byte_order names (record { name = name })
+  pub features : List (List ℕ)
 
 -- before the first line
 abbrev pub blank : Sofar

@@ -7,7 +7,7 @@ ghost use Rattle.feature_lines.specs.Steps.{added, counted_or_locked, noted, ste
 
 use crate::fault::LicenceFault;
 use crate::line::{FeatureLine, Said};
-use crate::names::{FeatureName, add_name};
+use crate::names::add_name;
 use crate::pool::Pool;
 use lic_types::{Expiry, Name, Note, NoteKind};
 use std::collections::BTreeSet;
@@ -24,7 +24,7 @@ pub struct Draft {
     pub pools: Vec<Pool>,
     pub notes: Vec<Note>,
     /// The names of the FEATURE lines so far, each once.
-    pub features: BTreeSet<FeatureName>,
+    pub features: BTreeSet<Name>,
 }
 
 /// Whether two expiries are of the same date, or are both never.

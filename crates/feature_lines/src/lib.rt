@@ -15,7 +15,7 @@ pub use fault::LicenceFault;
 pub use lic_types::{Note, NoteKind};
 pub use licence::{Licence, read_licence};
 pub use pool::Pool;
-pub use route::Found;
+pub use route::{Found, find_pool};
 
 #[cfg(test)]
 mod tests;

@@ -5,14 +5,14 @@ ghost use Rattle.feature_lines.specs.Draft.{sofar_of};
 ghost use Rattle.feature_lines.specs.Line.{judged};
 ghost use Rattle.feature_lines.specs.Steps.{stepped};
 ghost use Rattle.feature_lines.specs.Licence.{IsFaultOf, IsReading, are_apart, has_licences, licence_of};
-ghost use Rattle.feature_lines.specs.Route.{is_new_enough, route};
+ghost use Rattle.feature_lines.specs.Route.{IsThere, is_new_enough, route};
 ghost use Rattle.feature_lines.specs.declared.route.Found.TheVariants.{Unknown};
 
 use crate::draft::{Draft, take};
 use crate::fault::LicenceFault;
 use crate::line::read_line;
 use crate::pool::Pool;
-use crate::route::{Found, route};
+use crate::route::{Found, find_pool};
 use lic_text::{Line, TextFault, lines};
 use lic_types::{Name, Note, Version};
 use std::alloc::Global;
@@ -60,9 +60,10 @@ impl Licence {
     /// good to the end of its day in UTC. Versions are compared as decimal numbers (this project).
     pub fn find(&self, name: &Name, version: Version, moment: u64) -> Found
         ensures found { result ≡ route self.now.pools name.now version.key moment }
+        ensures there { IsThere (length self.now.pools) result }
         ensures unknown { (result ≡ Unknown) ↔ (list_any (is_new_enough name.now version.key) self.now.pools ≡ false) }
     {
-        route(self.pools.as_slice(), name, version, moment)
+        find_pool(self.pools.as_slice(), name, version, moment)
     }
 }
 

@@ -1,7 +1,7 @@
 ghost use Rattle.std.specs.Prelude.{◌≡◌, ◌<◌, ◌↔◌, IfSome, find, length, false};
 ghost use Rattle.std.specs.List.{list_any, position_from};
 ghost use Rattle.std.specs.Option.{option_map};
-ghost use Rattle.feature_lines.specs.Route.{is_good, is_new_enough, route, serves};
+ghost use Rattle.feature_lines.specs.Route.{IsThere, is_good, is_new_enough, route, serves};
 ghost use Rattle.feature_lines.specs.declared.route.Found.TheVariants.{Unknown};
 
 use crate::pool::Pool;
@@ -59,9 +59,12 @@ fn first_expiry(pools: &[Pool], name: &Name, version: Version) -> Option<Expiry>
         .map(|pool| pool.expiry)
 }
 
-/// Which pool serves a checkout at a moment, in seconds since 1970-01-01 UTC.
-pub(crate) fn route(pools: &[Pool], name: &Name, version: Version, moment: u64) -> Found
+/// Which of some pools serves a checkout at a moment, in seconds since 1970-01-01 UTC: the first that is of the name, of at
+/// least the version, and good at that moment. Where all that are of the name and new enough have expired, the answer has
+/// the expiry of the first of them. The rule is this project's own.
+pub fn find_pool(pools: &[Pool], name: &Name, version: Version, moment: u64) -> Found
     ensures found { result ≡ route pools.now name.now version.key moment }
+    ensures there { IsThere (length pools.now) result }
     ensures unknown { (result ≡ Unknown) ↔ (list_any (is_new_enough name.now version.key) pools.now ≡ false) }
 {
     if let Some(at) = serving(pools, name, version, moment) {

@@ -18,7 +18,7 @@ pub use file::lines;
 pub use laws::{numbers_rise, words_are_words};
 pub use line::Line;
 pub use logical::Lines;
-pub use words::Words;
+pub use words::{Words, words_in};
 
 #[cfg(test)]
 mod tests;

@@ -1,5 +1,6 @@
 ghost use Rattle.std.specs.Prelude.{◌≡◌, ◌<◌, [], length};
 ghost use Rattle.lic_text.specs.Physical.{physical_lines};
+ghost use Rattle.lic_text.specs.Left.{words_left};
 ghost use Rattle.lic_text.specs.Lines.{words_of};
 ghost use Rattle.lic_text.specs.Front.{joined_text};
 
@@ -51,6 +52,13 @@ impl<'a> Words<'a> {
             }
         }
     }
+}
+
+/// The words of a text, each a slice of it: its longest runs of bytes that are neither space nor tab.
+pub fn words_in(text: &[u8]) -> Words<'_>
+    ensures { words_left result ≡ words_of text.now }
+{
+    Words { text, further: &[] }
 }
 
 impl<'a> Iterator for Words<'a> {

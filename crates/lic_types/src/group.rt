@@ -1,8 +1,8 @@
 ghost use Rattle.std.specs.Prelude.{◌≡◌, IfOk};
 ghost use Rattle.lic_types.specs.Groups.{GroupLine};
 
-use crate::memory::NoMemory;
 use crate::name::Name;
+use no_memory::NoMemory;
 use std::alloc::Global;
 use std::marker::Model;
 

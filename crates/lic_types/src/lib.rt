@@ -5,7 +5,6 @@
 mod client;
 mod day;
 mod group;
-mod memory;
 mod name;
 mod note;
 mod printed_day;
@@ -14,8 +13,8 @@ mod version;
 pub use client::{Client, Rule, RuleLine, Who, WhoKind};
 pub use day::{Day, Expiry};
 pub use group::Group;
-pub use memory::NoMemory;
 pub use name::{Name, NameFault};
+pub use no_memory::NoMemory;
 pub use note::{Note, NoteKind};
 pub use version::Version;
 

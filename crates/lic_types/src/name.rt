@@ -2,6 +2,7 @@ ghost use Rattle.std.specs.Prelude.{◌≡◌, ◌<◌, ◌≤◌, IfSome, lengt
 ghost use Rattle.std.specs.List.{position_from};
 ghost use Rattle.lic_types.specs.Name.{IsName, filled, is_name_byte, name_of};
 
+use std::cmp::Ordering;
 use std::fmt;
 use std::fmt::Write;
 use std::marker::Model;
@@ -22,7 +23,7 @@ pub enum NameFault {
 }
 
 /// The name of a feature, a vendor, a user, a host, a display, a project or a group: 1 to 64 bytes from 33 to 126,
-/// which a clause sees as their list. Names are compared as exact bytes (this project).
+/// which a clause sees as their list. Names are compared as exact bytes, and are in the order of their bytes (this project).
 #[derive(Clone, Copy)]
 pub struct Name {
     len: u8,
@@ -55,6 +56,38 @@ impl PartialEq for Name {
 
     fn eq(&self, other: &Self) -> bool {
         self.bytes() == other.bytes()
+    }
+}
+
+impl PartialOrd for Name {
+    ghost use Rattle.std.specs.Prelude.{Some};
+    ghost use Rattle.std.specs.Cmp.Lexicographic.{slice_cmp, texts_po};
+    ghost use Rattle.std.specs.Ordering.{nat_cmp};
+
+    ghost partial_cmp = { λ x y. Some (slice_cmp nat_cmp x y) };
+
+    ghost laws = { texts_po };
+
+    fn partial_cmp(&self, other: &Self) -> Option<Ordering> {
+        Some(self.cmp(other))
+    }
+}
+
+impl Ord for Name {
+    ghost use Rattle.std.specs.Prelude.{refl};
+    ghost use Rattle.std.specs.Cmp.Lexicographic.{nat_list_cmp_total, slice_cmp, texts_ties};
+    ghost use Rattle.std.specs.Ordering.{nat_cmp};
+
+    ghost cmp = { slice_cmp nat_cmp };
+
+    ghost total = { nat_list_cmp_total };
+
+    ghost matches_partial_cmp = { λ x y. refl };
+
+    ghost matches_eq = { texts_ties };
+
+    fn cmp(&self, other: &Self) -> Ordering {
+        self.bytes().cmp(other.bytes())
     }
 }
 

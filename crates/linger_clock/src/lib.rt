@@ -9,13 +9,12 @@ ghost use Rattle.std.specs.Prelude.{◌≡◌, ◌≤◌, ◌<◌, ◌↔◌, []
 ghost use Rattle.std.specs.Option.{option_map};
 ghost use Rattle.linger_clock.specs.Deadlines.{is_due, until_of, without, placed, IsClock};
 
-mod memory;
 mod spare;
 #[cfg(test)]
 mod tests;
 mod tree;
 
-pub use memory::NoMemory;
+pub use no_memory::NoMemory;
 use spare::{Spare, spares};
 use std::alloc::Global;
 use std::marker::Model;

@@ -1,29 +1,23 @@
 use Rattle.std.specs.Prelude.{ℕ, Bool, true, List, Option, None, Some}
-use Rattle.std.specs.List.{list_any}
 use Rattle.std.specs.Option.{option_map}
-use Rattle.lic_types.specs.Groups.{same_name}
+use Rattle.lic_types.specs.NameSets.{has_name}
 use Rattle.lic_types.specs.declared.client.RuleLine.{RuleLine}
 use Rattle.lic_types.specs.declared.client.Who.{Who}
 use Rattle.lic_types.specs.declared.client.WhoKind.{WhoKind}
 use Rattle.lic_types.specs.declared.client.WhoKind.TheVariants.{User, Host, Display, Project, Group, HostGroup}
 use Rattle.options_text.specs.Options.{OptionsFile, first_untold}
-use Rattle.options_text.specs.declared.names.GroupName.{GroupName}
-
--- one of the names is this
-abbrev pub has_name : List GroupName → List ℕ → Bool
-has_name names name = list_any (λ (k : GroupName). same_name k.name name) names
 
 -- a name that is no group's, or one of the names of groups of its kind
-abbrev pub is_listed : List GroupName → List GroupName → WhoKind → List ℕ → Bool
+abbrev pub is_listed : List (List ℕ) → List (List ℕ) → WhoKind → List ℕ → Bool
 is_listed users hosts User name = true
 is_listed users hosts Host name = true
 is_listed users hosts Display name = true
 is_listed users hosts Project name = true
-is_listed users hosts Group name = has_name users name
-is_listed users hosts HostGroup name = has_name hosts name
+is_listed users hosts Group name = has_name name users
+is_listed users hosts HostGroup name = has_name name hosts
 
 -- nobody, or somebody who is listed
-abbrev pub is_known : List GroupName → List GroupName → Option Who → Bool
+abbrev pub is_known : List (List ℕ) → List (List ℕ) → Option Who → Bool
 is_known users hosts None = true
 is_known users hosts (Some who) = is_listed users hosts who.kind who.name
 

@@ -1,5 +1,5 @@
 use Rattle.std.proofs.Common.{not, ap, ◌∙◌}
-use Rattle.feature_lines.proofs.NameSets.{finds_name}
+use Rattle.lic_types.proofs.NameSets.{finds_name}
 use Rattle.feature_lines.proofs.names.add_name.Goals as goal
 
 pub returns-clause-ok : goal.returns-clause-ok

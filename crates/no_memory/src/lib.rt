@@ -1,3 +1,6 @@
+//! The error for want of memory, which is one for the whole house.
+#![tactic(auto)]
+
 use std::alloc::{AllocError, AllocFailed};
 use thiserror::Error;
 

@@ -1,9 +1,13 @@
-use Rattle.std.proofs.Common.{◌≡◌, true, refl, sym, ap, Some, ◌∙◌}
+use Rattle.std.proofs.Common.{◌≡◌, true, refl, sym, ap, arith, Some, ◌∙◌}
 use Rattle.std.specs.List.{list_any}
-use Rattle.feature_lines.specs.Route.{is_good, is_new_enough}
+use Rattle.feature_lines.specs.Route.{is_good, is_new_enough, serves}
 use Rattle.feature_lines.specs.declared.pool.Pool.{Pool}
-use Rattle.feature_lines.proofs.Routes.{expiry_any, never_serves, no_expiry, served_any}
-use Rattle.feature_lines.proofs.route.route.Goals as goal
+use Rattle.feature_lines.proofs.Routes.{expiry_any, never_serves, no_expiry, position_within, served_any}
+use Rattle.feature_lines.proofs.route.find_pool.Goals as goal
+
+pub returns-in-Some-clause-there : goal.returns-in-Some-clause-there
+returns-in-Some-clause-there c =
+    omega (arith, position_within (serves c.args.name.now c.args.version.key c.args.moment) 0 c.args.pools.now c.in-Some.at (sym c.serving.ensures ∙ c.in-Some.is))
 
 pub returns-in-Some-clause-unknown : goal.returns-in-Some-clause-unknown
 returns-in-Some-clause-unknown c =
