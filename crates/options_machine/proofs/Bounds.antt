@@ -1,25 +1,24 @@
-use Rattle.std.proofs.Common.{◌≡◌, ℕ, ◌+◌, ◌-◌, ◌<◌, ◌≤◌, Bool, true, false, cond, List, [], ◌∷◌, ◌++◌, length, refl, sym, ◌∙◌, arith, suc, zero, subst, ltb, leb, eqb, not, ◌&&◌, Option, None, Some, map, filter, length-append}
+use Rattle.std.proofs.Common.{◌≡◌, ℕ, ◌+◌, ◌-◌, ◌<◌, ◌≤◌, Bool, true, false, cond, List, [], ◌∷◌, ◌++◌, length, refl, sym, ◌∙◌, arith, suc, zero, subst, ltb, leb, eqb, not, Option, None, Some, map, filter, length-append}
 use Rattle.std.specs.List.{count_by}
-use Rattle.std.proofs.lemmas.Bool.{eqb-true, eqb-false, ltb-true, leb-true, leb-false, le-leb}
+use Rattle.std.proofs.lemmas.Bool.{eqb-true, eqb-false, leb-true, leb-false, le-leb}
 use Rattle.lic_types.specs.declared.client.Client.{Client}
 use Rattle.options_machine.specs.declared.decision.Decision.{Decision}
 use Rattle.options_machine.specs.declared.decision.Decision.TheVariants.{Barred, Retake, Capped, Grant, Full}
-use Rattle.options_machine.specs.declared.decision.Place.{Place}
-use Rattle.options_machine.specs.declared.decision.Place.TheVariants.{Told, Untold, Waiting, Away}
+use Rattle.options_machine.specs.declared.effect.Effect.{Effect}
+use Rattle.options_machine.specs.declared.effect.Effect.TheVariants.{Nothing, Tell, Release, Linger, Unqueue, Seat, Reseat, Join}
 use Rattle.options_machine.specs.declared.reply.Charge.{Charge}
-use Rattle.options_machine.specs.declared.reply.Kind.{Kind}
-use Rattle.options_machine.specs.declared.reply.Kind.TheVariants as kind
 use Rattle.options_machine.specs.declared.rows.Holder.{Holder}
 use Rattle.options_machine.specs.declared.rows.Lingerer.{Lingerer}
 use Rattle.options_machine.specs.declared.rows.Queuer.{Queuer}
 use Rattle.options_machine.specs.Rules.{Rules}
 use Rattle.options_machine.specs.State.{State, entries, is_holder, is_queuer}
 use Rattle.options_machine.specs.Decide.{decide, is_left_by}
-use Rattle.options_machine.specs.Settle.{in_time, joined, moved, offered, seated, serve, settle, timely, without_first}
-use Rattle.options_machine.specs.Step.{answered, charged_anew, holders_anew, left, most_lingering, next_charge, released, taken, to_away, to_told, to_untold, to_waiting, told, told_if, unqueued, waits}
+use Rattle.options_machine.specs.Settle.{in_time, moved, serve, settle, timely, with_offer, with_queuer, with_seat, without_first}
+use Rattle.options_machine.specs.Apply.{Fits, apply, most_lingering, told_if, with_told, without_holder, without_queuer}
+use Rattle.options_machine.specs.Step.{holders_anew, next_charge, with_charges_anew}
 use Rattle.options_machine.specs.Kept.{IsBounded, entries_by}
-use Rattle.options_machine.proofs.Counts.{count-cons, count-append, count-push, count-with_holder, count-filter_le, length-filter_le, count-map, and_right}
-use Rattle.options_machine.proofs.Steps.{answered_now, length_lingering_anew, settle_now}
+use Rattle.options_machine.proofs.Counts.{count-cons, count-append, count-push, count-with_holder, count-filter_le, length-filter_le, count-map}
+use Rattle.options_machine.proofs.Steps.{apply_now, length_lingering_anew, settle_now}
 
 -- distinct numbers below n are at most n
 
@@ -123,13 +122,13 @@ entry_fits n s party within none single out =
 
 -- parties stay: who was in neither list is in neither, but for the party that asks
 
-by_seated : (test : ℕ → Bool) (s : State) (party : ℕ) (client : Client) (charge : Charge) (told : Bool) → entries_by test (seated s party client charge told) ≡ entries_by test s + cond (test party) 1 0
+by_seated : (test : ℕ → Bool) (s : State) (party : ℕ) (client : Client) (charge : Charge) (told : Bool) → entries_by test (with_seat s party client charge told) ≡ entries_by test s + cond (test party) 1 0
 by_seated test s party client charge told = omega (arith, count-with_holder (λ (h : Holder). test h.party) (record { party = party; client = client; charge = charge; beat = s.now; told = told }) s.holders)
 
-by_joined : (test : ℕ → Bool) (s : State) (q : Queuer) → entries_by test (joined s q) ≡ entries_by test s + cond (test q.party) 1 0
+by_joined : (test : ℕ → Bool) (s : State) (q : Queuer) → entries_by test (with_queuer s q) ≡ entries_by test s + cond (test q.party) 1 0
 by_joined test s q = omega (arith, count-push (λ (x : Queuer). test x.party) s.queue q)
 
-by_offered : (test : ℕ → Bool) (s : State) (q : Queuer) (d : Decision) → entries_by test (offered s q d) ≡ entries_by test s + cond (test q.party) 1 0
+by_offered : (test : ℕ → Bool) (s : State) (q : Queuer) (d : Decision) → entries_by test (with_offer s q d) ≡ entries_by test s + cond (test q.party) 1 0
 by_offered test s q (Barred line) = by_joined test s q
 by_offered test s q (Retake charge) = by_seated test (record s { lingering = without_first (is_left_by q.client) s.lingering }) q.party q.client charge false
 by_offered test s q (Capped line) = by_joined test s q
@@ -139,7 +138,7 @@ by_offered test s q Full = by_joined test s q
 by_serve : (test : ℕ → Bool) (r : Rules) (s : State) (qs : List Queuer) → entries_by test (serve r s qs) ≡ entries_by test s + count_by (λ (q : Queuer). test q.party) qs
 by_serve test r s [] = omega arith
 by_serve test r s (q ∷ qs) =
-    omega (arith, by_serve test r (offered s q (decide r s q.client)) qs, by_offered test s q (decide r s q.client), count-cons (λ (x : Queuer). test x.party) q qs)
+    omega (arith, by_serve test r (with_offer s q (decide r s q.client)) qs, by_offered test s q (decide r s q.client), count-cons (λ (x : Queuer). test x.party) q qs)
 
 timed_by : (test : ℕ → Bool) (timeout : Option ℕ) (now : ℕ) (hs : List Holder) → count_by (λ (h : Holder). test h.party) (in_time timeout now hs) ≤ count_by (λ (h : Holder). test h.party) hs
 timed_by test None now hs = omega arith
@@ -152,79 +151,24 @@ told_by : (test : ℕ → Bool) (b : Bool) (now : ℕ) (h : Holder) → test (to
 told_by test true now h = refl
 told_by test false now h = refl
 
-by_told : (test : ℕ → Bool) (s : State) (party : ℕ) → entries_by test (told s party) ≤ entries_by test s
+by_told : (test : ℕ → Bool) (s : State) (party : ℕ) → entries_by test (with_told s party) ≤ entries_by test s
 by_told test s party = omega (arith, count-map (λ (h : Holder). test h.party) (λ (h : Holder). told_if (is_holder party h) s.now h) (λ h. told_by test (is_holder party h) s.now h) s.holders)
 
-by_released : (test : ℕ → Bool) (s : State) (party : ℕ) → entries_by test (released s party) ≤ entries_by test s
+by_released : (test : ℕ → Bool) (s : State) (party : ℕ) → entries_by test (without_holder s party) ≤ entries_by test s
 by_released test s party = omega (arith, count-filter_le (λ (h : Holder). test h.party) (λ (h : Holder). not (is_holder party h)) s.holders)
 
-by_unqueued : (test : ℕ → Bool) (s : State) (party : ℕ) → entries_by test (unqueued s party) ≤ entries_by test s
+by_unqueued : (test : ℕ → Bool) (s : State) (party : ℕ) → entries_by test (without_queuer s party) ≤ entries_by test s
 by_unqueued test s party = omega (arith, count-filter_le (λ (q : Queuer). test q.party) (λ (q : Queuer). not (is_queuer party q)) s.queue)
 
-by_left : (test : ℕ → Bool) (r : Rules) (s : State) (h : Holder) (b : Bool) → ltb 0 r.linger && ltb (length s.lingering) most_lingering ≡ b → entries_by test (left r s h).1 ≤ entries_by test s
-by_left test r s h true e = rw e (by_released test s h.party)
-by_left test r s h false e = rw e (by_released test s h.party)
-
-by_to_told : (test : ℕ → Bool) (r : Rules) (s : State) (h : Holder) (asked : Kind) → entries_by test (to_told r s h asked).1 ≤ entries_by test s
-by_to_told test r s h kind.Checkout = omega arith
-by_to_told test r s h kind.Queue = omega arith
-by_to_told test r s h kind.Checkin = by_left test r s h (ltb 0 r.linger && ltb (length s.lingering) most_lingering) refl
-by_to_told test r s h kind.Quit = by_left test r s h (ltb 0 r.linger && ltb (length s.lingering) most_lingering) refl
-by_to_told test r s h kind.Beat = by_told test s h.party
-by_to_told test r s h kind.Look = omega arith
-by_to_told test r s h kind.Count = omega arith
-by_to_told test r s h (kind.Reread n) = omega arith
-
-by_to_untold : (test : ℕ → Bool) (r : Rules) (s : State) (h : Holder) (asked : Kind) → entries_by test (to_untold r s h asked).1 ≤ entries_by test s
-by_to_untold test r s h kind.Checkout = by_told test s h.party
-by_to_untold test r s h kind.Queue = by_told test s h.party
-by_to_untold test r s h kind.Look = by_told test s h.party
-by_to_untold test r s h kind.Beat = by_told test s h.party
-by_to_untold test r s h kind.Checkin = by_released test s h.party
-by_to_untold test r s h kind.Quit = by_released test s h.party
-by_to_untold test r s h kind.Count = omega arith
-by_to_untold test r s h (kind.Reread n) = omega arith
-
-by_waits : (test : ℕ → Bool) (s : State) (q : Queuer) (d : Decision) → entries_by test (waits s q d).1 ≤ entries_by test s
-by_waits test s q (Barred line) = by_unqueued test s q.party
-by_waits test s q (Retake charge) = omega arith
-by_waits test s q (Capped line) = omega arith
-by_waits test s q (Grant charge) = omega arith
-by_waits test s q Full = omega arith
-
-by_to_waiting : (test : ℕ → Bool) (r : Rules) (s : State) (q : Queuer) (asked : Kind) → entries_by test (to_waiting r s q asked).1 ≤ entries_by test s
-by_to_waiting test r s q kind.Checkout = by_waits test s q (decide r s q.client)
-by_to_waiting test r s q kind.Queue = by_waits test s q (decide r s q.client)
-by_to_waiting test r s q kind.Look = by_waits test s q (decide r s q.client)
-by_to_waiting test r s q kind.Beat = by_waits test s q (decide r s q.client)
-by_to_waiting test r s q kind.Checkin = by_unqueued test s q.party
-by_to_waiting test r s q kind.Quit = by_unqueued test s q.party
-by_to_waiting test r s q kind.Count = omega arith
-by_to_waiting test r s q (kind.Reread n) = omega arith
-
-by_taken : (test : ℕ → Bool) (r : Rules) (s : State) (party : ℕ) (client : Client) (may_wait : Bool) (d : Decision) → entries_by test (taken r s party client may_wait d).1 ≤ entries_by test s + cond (test party) 1 0
-by_taken test r s party client may_wait (Barred line) = omega arith
-by_taken test r s party client may_wait (Retake charge) = omega (arith, by_seated test (record s { lingering = without_first (is_left_by client) s.lingering }) party client charge true)
-by_taken test r s party client may_wait (Capped line) = omega arith
-by_taken test r s party client may_wait (Grant charge) = omega (arith, by_seated test s party client charge true)
-by_taken test r s party client true Full = omega (arith, by_joined test s (record { party = party; client = client }))
-by_taken test r s party client false Full = omega arith
-
-by_to_away : (test : ℕ → Bool) (r : Rules) (s : State) (party : ℕ) (client : Client) (asked : Kind) → entries_by test (to_away r s party client asked).1 ≤ entries_by test s + cond (test party) 1 0
-by_to_away test r s party client kind.Checkout = by_taken test r s party client false (decide r s client)
-by_to_away test r s party client kind.Queue = by_taken test r s party client true (decide r s client)
-by_to_away test r s party client kind.Checkin = omega arith
-by_to_away test r s party client kind.Quit = omega arith
-by_to_away test r s party client kind.Beat = omega arith
-by_to_away test r s party client kind.Look = omega arith
-by_to_away test r s party client kind.Count = omega arith
-by_to_away test r s party client (kind.Reread n) = omega arith
-
-by_answered : (test : ℕ → Bool) (r : Rules) (s : State) (party : ℕ) (client : Client) (asked : Kind) (at : Place) → entries_by test (answered r s party client asked at).1 ≤ entries_by test s + cond (test party) 1 0
-by_answered test r s party client asked (Told h) = omega (arith, by_to_told test r s h asked)
-by_answered test r s party client asked (Untold h) = omega (arith, by_to_untold test r s h asked)
-by_answered test r s party client asked (Waiting q) = omega (arith, by_to_waiting test r s q asked)
-by_answered test r s party client asked Away = by_to_away test r s party client asked
+by_apply : (test : ℕ → Bool) (s : State) (party : ℕ) (client : Client) (x : Effect) → entries_by test (apply s party client x) ≤ entries_by test s + cond (test party) 1 0
+by_apply test s party client Nothing = omega arith
+by_apply test s party client Tell = omega (arith, by_told test s party)
+by_apply test s party client Release = omega (arith, by_released test s party)
+by_apply test s party client (Linger l) = omega (arith, by_released test s party)
+by_apply test s party client Unqueue = omega (arith, by_unqueued test s party)
+by_apply test s party client (Seat charge) = omega (arith, by_seated test s party client charge true)
+by_apply test s party client (Reseat charge) = omega (arith, by_seated test (record s { lingering = without_first (is_left_by client) s.lingering }) party client charge true)
+by_apply test s party client Join = omega (arith, by_joined test s (record { party = party; client = client }))
 
 by_anew : (test : ℕ → Bool) (r : Rules) (given : List Charge) (hs : List Holder) → count_by (λ (h : Holder). test h.party) (holders_anew r given hs) ≡ count_by (λ (h : Holder). test h.party) hs
 by_anew test r given [] = refl
@@ -242,7 +186,7 @@ without_length : {X : Type 0} (p : X → Bool) (xs : List X) → length (without
 without_length p [] = omega arith
 without_length p (x ∷ xs) = without_length_step p x xs (p x) refl (without_length p xs)
 
-offered_lingering : (s : State) (q : Queuer) (d : Decision) → length (offered s q d).lingering ≤ length s.lingering
+offered_lingering : (s : State) (q : Queuer) (d : Decision) → length (with_offer s q d).lingering ≤ length s.lingering
 offered_lingering s q (Barred line) = omega arith
 offered_lingering s q (Retake charge) = without_length (is_left_by q.client) s.lingering
 offered_lingering s q (Capped line) = omega arith
@@ -251,78 +195,17 @@ offered_lingering s q Full = omega arith
 
 serve_lingering : (r : Rules) (s : State) (qs : List Queuer) → length (serve r s qs).lingering ≤ length s.lingering
 serve_lingering r s [] = omega arith
-serve_lingering r s (q ∷ qs) = omega (arith, serve_lingering r (offered s q (decide r s q.client)) qs, offered_lingering s q (decide r s q.client))
+serve_lingering r s (q ∷ qs) = omega (arith, serve_lingering r (with_offer s q (decide r s q.client)) qs, offered_lingering s q (decide r s q.client))
 
 pub settle_lingering : (r : Rules) (s : State) (moment : ℕ) → length (settle r s moment).lingering ≤ length s.lingering
 settle_lingering r s moment = omega (arith, serve_lingering r (record (timely r s moment) { queue = [] }) s.queue, length-filter_le (λ (l : Lingerer). ltb (moved s.now moment) l.until) s.lingering)
 
-left_lingering : (r : Rules) (s : State) (h : Holder) (b c : Bool) → ltb (length s.lingering) most_lingering ≡ c → ltb 0 r.linger && ltb (length s.lingering) most_lingering ≡ b → length s.lingering ≤ most_lingering → length (left r s h).1.lingering ≤ most_lingering
-left_lingering r s h false c e f k = rw f k
-left_lingering r s h true true e f k = rw f (let less : length s.lingering < most_lingering = ltb-true _ _ e in omega (arith, less, length-append s.lingering ((record { client = h.client; charge = h.charge; until = s.now + r.linger }) ∷ [])))
-left_lingering r s h true false e f k = let none : ltb (length s.lingering) most_lingering ≡ true = and_right (ltb 0 r.linger) (ltb (length s.lingering) most_lingering) f in let never : true ≡ false = sym none ∙ e in cc
+lingering_apply : (r : Rules) (s : State) (party : ℕ) (client : Client) (x : Effect) → Fits r s party client x → length s.lingering ≤ most_lingering → length (apply s party client x).lingering ≤ most_lingering
+lingering_apply r s party client (Linger l) (h, e, who, same, room) k = omega (arith, room, length-append s.lingering (l ∷ []))
+lingering_apply r s party client (Reseat charge) f k = omega (arith, without_length (is_left_by client) s.lingering, k)
+lingering_apply r s party client other f k = k
 
-told_lingering : (r : Rules) (s : State) (h : Holder) (asked : Kind) → length s.lingering ≤ most_lingering → length (to_told r s h asked).1.lingering ≤ most_lingering
-told_lingering r s h kind.Checkout k = k
-told_lingering r s h kind.Queue k = k
-told_lingering r s h kind.Checkin k = left_lingering r s h (ltb 0 r.linger && ltb (length s.lingering) most_lingering) (ltb (length s.lingering) most_lingering) refl refl k
-told_lingering r s h kind.Quit k = left_lingering r s h (ltb 0 r.linger && ltb (length s.lingering) most_lingering) (ltb (length s.lingering) most_lingering) refl refl k
-told_lingering r s h kind.Beat k = k
-told_lingering r s h kind.Look k = k
-told_lingering r s h kind.Count k = k
-told_lingering r s h (kind.Reread n) k = k
-
-untold_lingering : (r : Rules) (s : State) (h : Holder) (asked : Kind) → length (to_untold r s h asked).1.lingering ≤ length s.lingering
-untold_lingering r s h kind.Checkout = omega arith
-untold_lingering r s h kind.Queue = omega arith
-untold_lingering r s h kind.Look = omega arith
-untold_lingering r s h kind.Beat = omega arith
-untold_lingering r s h kind.Checkin = omega arith
-untold_lingering r s h kind.Quit = omega arith
-untold_lingering r s h kind.Count = omega arith
-untold_lingering r s h (kind.Reread n) = omega arith
-
-waits_lingering : (s : State) (q : Queuer) (d : Decision) → length (waits s q d).1.lingering ≤ length s.lingering
-waits_lingering s q (Barred line) = omega arith
-waits_lingering s q (Retake charge) = omega arith
-waits_lingering s q (Capped line) = omega arith
-waits_lingering s q (Grant charge) = omega arith
-waits_lingering s q Full = omega arith
-
-waiting_lingering : (r : Rules) (s : State) (q : Queuer) (asked : Kind) → length (to_waiting r s q asked).1.lingering ≤ length s.lingering
-waiting_lingering r s q kind.Checkout = waits_lingering s q (decide r s q.client)
-waiting_lingering r s q kind.Queue = waits_lingering s q (decide r s q.client)
-waiting_lingering r s q kind.Look = waits_lingering s q (decide r s q.client)
-waiting_lingering r s q kind.Beat = waits_lingering s q (decide r s q.client)
-waiting_lingering r s q kind.Checkin = omega arith
-waiting_lingering r s q kind.Quit = omega arith
-waiting_lingering r s q kind.Count = omega arith
-waiting_lingering r s q (kind.Reread n) = omega arith
-
-taken_lingering : (r : Rules) (s : State) (party : ℕ) (client : Client) (may_wait : Bool) (d : Decision) → length (taken r s party client may_wait d).1.lingering ≤ length s.lingering
-taken_lingering r s party client may_wait (Barred line) = omega arith
-taken_lingering r s party client may_wait (Retake charge) = without_length (is_left_by client) s.lingering
-taken_lingering r s party client may_wait (Capped line) = omega arith
-taken_lingering r s party client may_wait (Grant charge) = omega arith
-taken_lingering r s party client true Full = omega arith
-taken_lingering r s party client false Full = omega arith
-
-away_lingering : (r : Rules) (s : State) (party : ℕ) (client : Client) (asked : Kind) → length (to_away r s party client asked).1.lingering ≤ length s.lingering
-away_lingering r s party client kind.Checkout = taken_lingering r s party client false (decide r s client)
-away_lingering r s party client kind.Queue = taken_lingering r s party client true (decide r s client)
-away_lingering r s party client kind.Checkin = omega arith
-away_lingering r s party client kind.Quit = omega arith
-away_lingering r s party client kind.Beat = omega arith
-away_lingering r s party client kind.Look = omega arith
-away_lingering r s party client kind.Count = omega arith
-away_lingering r s party client (kind.Reread n) = omega arith
-
-answered_lingering : (r : Rules) (s : State) (party : ℕ) (client : Client) (asked : Kind) (at : Place) → length s.lingering ≤ most_lingering → length (answered r s party client asked at).1.lingering ≤ most_lingering
-answered_lingering r s party client asked (Told h) k = told_lingering r s h asked k
-answered_lingering r s party client asked (Untold h) k = omega (arith, untold_lingering r s h asked, k)
-answered_lingering r s party client asked (Waiting q) k = omega (arith, waiting_lingering r s q asked, k)
-answered_lingering r s party client asked Away k = omega (arith, away_lingering r s party client asked, k)
-
--- settling, an answer and a rereading keep a book's bounds
+-- settling, an effect and a rereading keep a book's bounds
 
 pub bounded_settle : (n : ℕ) (r : Rules) (s : State) (moment : ℕ) → IsBounded n s → IsBounded n (settle r s moment)
 bounded_settle n r s moment b = record {
@@ -331,17 +214,17 @@ bounded_settle n r s moment b = record {
   moment = omega (arith, settle_now r s moment, b.moment);
 }
 
-pub bounded_answered : (n : ℕ) (r : Rules) (s : State) (party : ℕ) (client : Client) (asked : Kind) (at : Place) → party < n → IsBounded n s → IsBounded n (answered r s party client asked at).1
-bounded_answered n r s party client asked at within b =
+pub bounded_apply : (n : ℕ) (r : Rules) (s : State) (party : ℕ) (client : Client) (x : Effect) → Fits r s party client x → party < n → IsBounded n s → IsBounded n (apply s party client x)
+bounded_apply n r s party client x fits within b =
     let low : leb n party ≡ false = not_above n party (leb n party) refl within in
-    let more : entries_by (leb n) (answered r s party client asked at).1 ≤ entries_by (leb n) s + 0 = rw low at (by_answered (leb n) r s party client asked at) in
+    let more : entries_by (leb n) (apply s party client x) ≤ entries_by (leb n) s + 0 = rw low at (by_apply (leb n) s party client x) in
     record {
       outside = omega (arith, more, b.outside);
-      lingering = answered_lingering r s party client asked at b.lingering;
-      moment = omega (arith, answered_now r s party client asked at, b.moment);
+      lingering = lingering_apply r s party client x fits b.lingering;
+      moment = omega (arith, apply_now s party client x, b.moment);
     }
 
-pub bounded_anew : (n : ℕ) (r : Rules) (s : State) → IsBounded n s → IsBounded n (charged_anew r s)
+pub bounded_anew : (n : ℕ) (r : Rules) (s : State) → IsBounded n s → IsBounded n (with_charges_anew r s)
 bounded_anew n r s b = record {
   outside = omega (arith, by_anew (leb n) r [] s.holders, b.outside);
   lingering = omega (arith, length_lingering_anew r (map (λ (h : Holder). h.charge) (holders_anew r [] s.holders)) s.lingering, b.lingering);

@@ -2,7 +2,8 @@ use Rattle.std.proofs.Common.{◌≡◌, ℕ, ◌+◌, ◌-◌, ◌<◌, ◌≤�
 use Rattle.std.proofs.lemmas.List.{length-map}
 use Rattle.std.specs.List.{count_by, find, sum_by}
 use Rattle.std.specs.Option.{option_map}
-use Rattle.std.proofs.lemmas.List.Sums.{sum_by-cons}
+use Rattle.std.proofs.lemmas.List.Filters.{length-filter_both}
+use Rattle.std.proofs.lemmas.List.Sums.{length-filter, sum_by-cons}
 use Rattle.std.proofs.lemmas.Bool.{eqb-true, eq-eqb, ltb-true}
 use Rattle.lic_types.specs.declared.client.Client.{Client}
 use Rattle.options_machine.specs.declared.decision.Decision.{Decision}
@@ -16,10 +17,10 @@ use Rattle.options_machine.specs.declared.rows.Queuer.{Queuer}
 use Rattle.options_machine.specs.Rules.{IsSound, Rules, applies, cut_of}
 use Rattle.options_machine.specs.State.{State, charges, entries, in_use, is_holder, is_queuer, same_charge}
 use Rattle.options_machine.specs.Decide.{decide, excluded, has_room, is_left_by, not_included, number_of_limit, reached, reserved, retaken, unless}
-use Rattle.options_machine.specs.Settle.{in_time, joined, moved, offered, reseated, seated, serve, settle, timely, without_first}
+use Rattle.options_machine.specs.Settle.{in_time, moved, serve, settle, timely, with_offer, with_queuer, with_seat, with_seat_again, without_first}
 use Rattle.options_machine.specs.Kept.{IsKept}
 use Rattle.options_machine.proofs.Places.{length-with_holder}
-use Rattle.options_machine.proofs.Counts.{count-cons, count-append, count-push, count-with_holder, count-filter_le, length-filter_le, find_passes, count-without_first, length-without_first, and_right, all_found}
+use Rattle.options_machine.proofs.Counts.{count-cons, count-append, count-push, count-with_holder, count-filter_le, length-filter_le, find_passes, count-without_first, length-without_first, none_left, and_right, all_found}
 
 -- what is kept, where these entries of the queue are still to be taken
 pub record Keeps (r : Rules) (s : State) (qs : List Queuer) : Type 0 where
@@ -34,14 +35,14 @@ FitsCharge r s (Reserve line) = charges s (Reserve line) < cut_of line r.reserve
 
 -- one more seat
 
-pub charges-seated : (s : State) (party : ℕ) (client : Client) (charge : Charge) (told : Bool) (c : Charge) → charges (seated s party client charge told) c ≡ charges s c + cond (same_charge charge c) 1 0
+pub charges-seated : (s : State) (party : ℕ) (client : Client) (charge : Charge) (told : Bool) (c : Charge) → charges (with_seat s party client charge told) c ≡ charges s c + cond (same_charge charge c) 1 0
 charges-seated s party client charge told c =
     omega (arith, count-with_holder (λ (h : Holder). same_charge h.charge c) (record { party = party; client = client; charge = charge; beat = s.now; told = told }) s.holders)
 
-pub in_use-seated : (s : State) (party : ℕ) (client : Client) (charge : Charge) (told : Bool) → in_use (seated s party client charge told) ≡ in_use s + 1
+pub in_use-seated : (s : State) (party : ℕ) (client : Client) (charge : Charge) (told : Bool) → in_use (with_seat s party client charge told) ≡ in_use s + 1
 in_use-seated s party client charge told = omega (arith, length-with_holder (record { party = party; client = client; charge = charge; beat = s.now; told = told }) s.holders)
 
-pub entries-seated : (s : State) (party : ℕ) (client : Client) (charge : Charge) (told : Bool) (p : ℕ) → entries (seated s party client charge told) p ≡ entries s p + cond (eqb party p) 1 0
+pub entries-seated : (s : State) (party : ℕ) (client : Client) (charge : Charge) (told : Bool) (p : ℕ) → entries (with_seat s party client charge told) p ≡ entries s p + cond (eqb party p) 1 0
 entries-seated s party client charge told p = omega (arith, count-with_holder (is_holder p) (record { party = party; client = client; charge = charge; beat = s.now; told = told }) s.holders)
 
 one_more : (r : Rules) (s : State) (line m : ℕ) (b : Bool) → eqb m line ≡ b → charges s (Reserve m) < cut_of m r.reserves → charges s (Reserve line) ≤ cut_of line r.reserves
@@ -55,7 +56,7 @@ reserved_more r s (Reserve m) line f k = one_more r s line m (eqb m line) refl f
 
 -- a seat for an entry of the queue
 pub keeps_seated : (r : Rules) (s : State) (party : ℕ) (client : Client) (charge : Charge) (told : Bool) (qs qs' : List Queuer) → in_use s < r.count → FitsCharge r s charge
-    → ((p : ℕ) → cond (eqb party p) 1 0 + count_by (is_queuer p) qs' ≤ count_by (is_queuer p) qs) → Keeps r s qs → Keeps r (seated s party client charge told) qs'
+    → ((p : ℕ) → cond (eqb party p) 1 0 + count_by (is_queuer p) qs' ≤ count_by (is_queuer p) qs) → Keeps r s qs → Keeps r (with_seat s party client charge told) qs'
 keeps_seated r s party client charge told qs qs' u f q k = record {
   within = omega (arith, in_use-seated s party client charge told, u);
   reserved = λ line. omega (arith, charges-seated s party client charge told (Reserve line), reserved_more r s charge line f (k.reserved line));
@@ -68,18 +69,18 @@ keeps_seated r s party client charge told qs qs' u f q k = record {
 abbrev pub LingersFor : State → Client → Charge → Type 0
 LingersFor s client charge = (l : Lingerer) × (find (is_left_by client) s.lingering ≡ Some l) × (l.charge ≡ charge)
 
-pub charges-reseated : (s : State) (party : ℕ) (client : Client) (charge : Charge) (told : Bool) (c : Charge) → LingersFor s client charge → charges (reseated s party client charge told) c ≡ charges s c
+pub charges-reseated : (s : State) (party : ℕ) (client : Client) (charge : Charge) (told : Bool) (c : Charge) → LingersFor s client charge → charges (with_seat_again s party client charge told) c ≡ charges s c
 charges-reseated s party client charge told c (l, e, f) =
     let more : _ ≡ _ = count-with_holder (λ (h : Holder). same_charge h.charge c) (record { party = party; client = client; charge = charge; beat = s.now; told = told }) s.holders in
     let less : _ ≡ _ = rw f at (count-without_first (λ (x : Lingerer). same_charge x.charge c) (is_left_by client) s.lingering l e) in
     omega (arith, more, less)
 
-pub in_use-reseated : (s : State) (party : ℕ) (client : Client) (charge : Charge) (told : Bool) → LingersFor s client charge → in_use (reseated s party client charge told) ≡ in_use s
+pub in_use-reseated : (s : State) (party : ℕ) (client : Client) (charge : Charge) (told : Bool) → LingersFor s client charge → in_use (with_seat_again s party client charge told) ≡ in_use s
 in_use-reseated s party client charge told (l, e, f) =
     omega (arith, length-with_holder (record { party = party; client = client; charge = charge; beat = s.now; told = told }) s.holders, length-without_first (is_left_by client) s.lingering l e)
 
 pub keeps_reseated : (r : Rules) (s : State) (party : ℕ) (client : Client) (charge : Charge) (told : Bool) (qs qs' : List Queuer) → LingersFor s client charge
-    → ((p : ℕ) → cond (eqb party p) 1 0 + count_by (is_queuer p) qs' ≤ count_by (is_queuer p) qs) → Keeps r s qs → Keeps r (reseated s party client charge told) qs'
+    → ((p : ℕ) → cond (eqb party p) 1 0 + count_by (is_queuer p) qs' ≤ count_by (is_queuer p) qs) → Keeps r s qs → Keeps r (with_seat_again s party client charge told) qs'
 keeps_reseated r s party client charge told qs qs' l q k = record {
   within = omega (arith, in_use-reseated s party client charge told l, k.within);
   reserved = λ line. omega (arith, charges-reseated s party client charge told (Reserve line) l, k.reserved line);
@@ -88,31 +89,9 @@ keeps_reseated r s party client charge told qs qs' l q k = record {
 
 -- what the cases of a decision say
 
-unless_grant : {X : Type 0} (o : Option X) (f : X → Decision) (others : Decision) (charge : Charge) → ((x : X) → f x ≡ Grant charge → ⊥) → unless o f others ≡ Grant charge → others ≡ Grant charge
-unless_grant None f others charge never e = e
-unless_grant (Some x) f others charge never e = absurd (never x e)
-
-unless_retake : {X : Type 0} (o : Option X) (f : X → Decision) (others : Decision) (charge : Charge) → ((x : X) → f x ≡ Retake charge → ⊥) → unless o f others ≡ Retake charge → others ≡ Retake charge
-unless_retake None f others charge never e = e
-unless_retake (Some x) f others charge never e = absurd (never x e)
-
-barred_is_none : (line : ℕ) (charge : Charge) → Barred line ≡ Grant charge → ⊥
-barred_is_none line charge e = cc
-
-capped_is_none : (line : ℕ) (charge : Charge) → Capped line ≡ Grant charge → ⊥
-capped_is_none line charge e = cc
-
-retake_is_none : (c charge : Charge) → Retake c ≡ Grant charge → ⊥
-retake_is_none c charge e = cc
-
-barred_is_no_retake : (line : ℕ) (charge : Charge) → Barred line ≡ Retake charge → ⊥
-barred_is_no_retake line charge e = cc
-
-capped_is_no_retake : (line : ℕ) (charge : Charge) → Capped line ≡ Retake charge → ⊥
-capped_is_no_retake line charge e = cc
-
-grant_is_no_retake : (line : ℕ) (charge : Charge) → Grant (Reserve line) ≡ Retake charge → ⊥
-grant_is_no_retake line charge e = cc
+pub unless_else : {X : Type 0} (o : Option X) (f : X → Decision) (others d : Decision) → ((x : X) → f x ≡ d → ⊥) → unless o f others ≡ d → others ≡ d
+unless_else None f others d never e = e
+unless_else (Some x) f others d never e = absurd (never x e)
 
 -- a grant is of the first RESERVE line with room, or of Open where there is room
 abbrev pub GrantOf : Option ℕ → Bool → Charge → Type 0
@@ -132,10 +111,10 @@ granted r s client charge e =
     let last : Decision = cond (ltb (charges s Open) r.free) (Grant Open) Full in
     let third : Decision = unless (reserved r s client) (λ line. Grant (Reserve line)) last in
     grant_of (reserved r s client) (ltb (charges s Open) r.free) charge
-    (unless_grant (reached r s client) Capped third charge (λ line. capped_is_none line charge)
-    (unless_grant (retaken s client) Retake (unless (reached r s client) Capped third) charge (λ c. retake_is_none c charge)
-    (unless_grant (not_included r client) Barred (unless (retaken s client) Retake (unless (reached r s client) Capped third)) charge (λ line. barred_is_none line charge)
-    (unless_grant (excluded r client) Barred (unless (not_included r client) Barred (unless (retaken s client) Retake (unless (reached r s client) Capped third))) charge (λ line. barred_is_none line charge) e))))
+    (unless_else (reached r s client) Capped third (Grant charge) (λ line f. cc)
+    (unless_else (retaken s client) Retake (unless (reached r s client) Capped third) (Grant charge) (λ c f. cc)
+    (unless_else (not_included r client) Barred (unless (retaken s client) Retake (unless (reached r s client) Capped third)) (Grant charge) (λ line f. cc)
+    (unless_else (excluded r client) Barred (unless (not_included r client) Barred (unless (retaken s client) Retake (unless (reached r s client) Capped third))) (Grant charge) (λ line f. cc) e))))
 
 -- a RESERVE line with room
 
@@ -160,8 +139,8 @@ lingers None charge e = let no : None ≡ Some charge = e in absurd (cc)
 lingers (Some l) charge e = let same : Some l.charge ≡ Some charge = e in (l, refl, cc)
 
 no_retake : (o : Option ℕ) (p : Option ℕ) (b : Bool) (charge : Charge) → unless o Capped (unless p (λ line. Grant (Reserve line)) (cond b (Grant Open) Full)) ≡ Retake charge → ⊥
-no_retake (Some line) p b charge e = capped_is_no_retake line charge e
-no_retake None (Some line) b charge e = grant_is_no_retake line charge e
+no_retake (Some line) p b charge e = let no : Capped line ≡ Retake charge = e in cc
+no_retake None (Some line) b charge e = let no : Grant (Reserve line) ≡ Retake charge = e in cc
 no_retake None None true charge e = let no : Grant Open ≡ Retake charge = e in cc
 no_retake None None false charge e = let no : Full ≡ Retake charge = e in cc
 
@@ -176,8 +155,8 @@ retakes r s client charge e =
     let third : Decision = unless (reached r s client) Capped (unless (reserved r s client) (λ line. Grant (Reserve line)) last) in
     lingers (find (is_left_by client) s.lingering) charge
     (retake_of (retaken s client) (reached r s client) (reserved r s client) (ltb (charges s Open) r.free) charge
-    (unless_retake (not_included r client) Barred (unless (retaken s client) Retake third) charge (λ line. barred_is_no_retake line charge)
-    (unless_retake (excluded r client) Barred (unless (not_included r client) Barred (unless (retaken s client) Retake third)) charge (λ line. barred_is_no_retake line charge) e)))
+    (unless_else (not_included r client) Barred (unless (retaken s client) Retake third) (Retake charge) (λ line f. cc)
+    (unless_else (excluded r client) Barred (unless (not_included r client) Barred (unless (retaken s client) Retake third)) (Retake charge) (λ line f. cc) e)))
 
 -- seats in use are charged to Open, or to RESERVE lines within their cut numbers
 
@@ -200,40 +179,20 @@ all_open (c ∷ cs) h =
     open_cons c cs (none_reserved c cs h)
     (all_open cs (λ line. omega (arith, h line, count-cons (λ (x : Charge). same_charge x (Reserve line)) c cs)))
 
-not_here : (n : ℕ) (c : Charge) (cs : List Charge) (b : Bool) → same_charge c (Reserve n) ≡ b → length cs ≡ length (filter (λ (x : Charge). not (same_charge x (Reserve n))) cs) + count_by (λ (x : Charge). same_charge x (Reserve n)) cs
-    → length (c ∷ cs) ≡ length (filter (λ (x : Charge). not (same_charge x (Reserve n))) (c ∷ cs)) + count_by (λ (x : Charge). same_charge x (Reserve n)) (c ∷ cs)
-not_here n c cs true e h =
-    let one : count_by (λ (x : Charge). same_charge x (Reserve n)) (c ∷ cs) ≡ 1 + count_by (λ (x : Charge). same_charge x (Reserve n)) cs = count-cons (λ (x : Charge). same_charge x (Reserve n)) c cs ∙ rw e refl in
-    let kept : length (filter (λ (x : Charge). not (same_charge x (Reserve n))) (c ∷ cs)) ≡ length (filter (λ (x : Charge). not (same_charge x (Reserve n))) cs) = rw e refl in
-    omega (arith, h, one, kept)
-not_here n c cs false e h =
-    let none : count_by (λ (x : Charge). same_charge x (Reserve n)) (c ∷ cs) ≡ 0 + count_by (λ (x : Charge). same_charge x (Reserve n)) cs = count-cons (λ (x : Charge). same_charge x (Reserve n)) c cs ∙ rw e refl in
-    let kept : length (filter (λ (x : Charge). not (same_charge x (Reserve n))) (c ∷ cs)) ≡ length (filter (λ (x : Charge). not (same_charge x (Reserve n))) cs) + 1 = rw e (omega arith) in
-    omega (arith, h, none, kept)
-
 length_others : (n : ℕ) (cs : List Charge) → length cs ≡ length (filter (λ (x : Charge). not (same_charge x (Reserve n))) cs) + count_by (λ (x : Charge). same_charge x (Reserve n)) cs
-length_others n [] = refl
-length_others n (c ∷ cs) = not_here n c cs (same_charge c (Reserve n)) refl (length_others n cs)
+length_others n cs =
+    let has : Charge → Bool = λ (x : Charge). same_charge x (Reserve n) in
+    omega (arith, length-filter_both has (λ (x : Charge). not (has x)) (λ x. refl) cs, length-filter has cs)
 
 open_others : (n : ℕ) (cs : List Charge) → count_by (λ (x : Charge). same_charge x Open) (filter (λ (x : Charge). not (same_charge x (Reserve n))) cs) ≤ count_by (λ (x : Charge). same_charge x Open) cs
 open_others n cs = count-filter_le (λ (x : Charge). same_charge x Open) (λ (x : Charge). not (same_charge x (Reserve n))) cs
-
-gone_step : (n : ℕ) (c : Charge) (cs : List Charge) (b : Bool) → same_charge c (Reserve n) ≡ b
-    → count_by (λ (x : Charge). same_charge x (Reserve n)) (filter (λ (x : Charge). not (same_charge x (Reserve n))) cs) ≡ 0
-    → count_by (λ (x : Charge). same_charge x (Reserve n)) (filter (λ (x : Charge). not (same_charge x (Reserve n))) (c ∷ cs)) ≡ 0
-gone_step n c cs true e h = rw e h
-gone_step n c cs false e h = rw e (count-cons (λ (x : Charge). same_charge x (Reserve n)) c (filter (λ (x : Charge). not (same_charge x (Reserve n))) cs) ∙ rw e (omega (arith, h)))
-
-gone : (n : ℕ) (cs : List Charge) → count_by (λ (x : Charge). same_charge x (Reserve n)) (filter (λ (x : Charge). not (same_charge x (Reserve n))) cs) ≡ 0
-gone n [] = refl
-gone n (c ∷ cs) = gone_step n c cs (same_charge c (Reserve n)) refl (gone n cs)
 
 less_one : (cs : List Charge) (m : Limit) (ms : List Limit) (line : ℕ) (b : Bool) → eqb m.line.line line ≡ b → count_by (λ (c : Charge). same_charge c (Reserve line)) cs ≤ cut_of line (m ∷ ms)
     → count_by (λ (c : Charge). same_charge c (Reserve line)) (filter (λ (c : Charge). not (same_charge c (Reserve m.line.line))) cs) ≤ cut_of line ms
 less_one cs m ms line true e h =
     let same : m.line.line ≡ line = eqb-true m.line.line line e in
     let none : count_by (λ (c : Charge). same_charge c (Reserve line)) (filter (λ (c : Charge). not (same_charge c (Reserve m.line.line))) cs) ≡ 0 =
-    subst (λ (n : ℕ). count_by (λ (c : Charge). same_charge c (Reserve n)) (filter (λ (c : Charge). not (same_charge c (Reserve m.line.line))) cs) ≡ 0) same (gone m.line.line cs) in
+    subst (λ (n : ℕ). count_by (λ (c : Charge). same_charge c (Reserve n)) (filter (λ (c : Charge). not (same_charge c (Reserve m.line.line))) cs) ≡ 0) same (none_left (λ (c : Charge). same_charge c (Reserve m.line.line)) cs) in
     omega (arith, none)
 less_one cs m ms line false e h =
     let bound : count_by (λ (c : Charge). same_charge c (Reserve line)) cs ≤ cut_of line ms = rw e at h in
@@ -287,14 +246,14 @@ grants r s client charge g h e = grant_fits r s client charge g h (granted r s c
 taken_in_turn : (q : Queuer) (qs : List Queuer) (p : ℕ) → cond (eqb q.party p) 1 0 + count_by (is_queuer p) qs ≤ count_by (is_queuer p) (q ∷ qs)
 taken_in_turn q qs p = omega (arith, count-cons (is_queuer p) q qs)
 
-keeps_joined : (r : Rules) (s : State) (q : Queuer) (qs : List Queuer) → Keeps r s (q ∷ qs) → Keeps r (joined s q) qs
+keeps_joined : (r : Rules) (s : State) (q : Queuer) (qs : List Queuer) → Keeps r s (q ∷ qs) → Keeps r (with_queuer s q) qs
 keeps_joined r s q qs k = record {
   within = k.within;
   reserved = k.reserved;
   single = λ p. omega (arith, k.single p, count-push (is_queuer p) s.queue q, count-cons (is_queuer p) q qs);
 }
 
-pub keeps_offered : (r : Rules) (s : State) (q : Queuer) (qs : List Queuer) (d : Decision) → decide r s q.client ≡ d → IsSound r → Keeps r s (q ∷ qs) → Keeps r (offered s q d) qs
+pub keeps_offered : (r : Rules) (s : State) (q : Queuer) (qs : List Queuer) (d : Decision) → decide r s q.client ≡ d → IsSound r → Keeps r s (q ∷ qs) → Keeps r (with_offer s q d) qs
 keeps_offered r s q qs (Retake charge) e g k = keeps_reseated r s q.party q.client charge false (q ∷ qs) qs (retakes r s q.client charge e) (taken_in_turn q qs) k
 keeps_offered r s q qs (Grant charge) e g k =
     let room : (in_use s < r.count) × FitsCharge r s charge = grants r s q.client charge g k.reserved e in
@@ -305,7 +264,7 @@ keeps_offered r s q qs Full e g k = keeps_joined r s q qs k
 
 pub keeps_serve : (r : Rules) (s : State) (qs : List Queuer) → IsSound r → Keeps r s qs → IsKept r (serve r s qs)
 keeps_serve r s [] g k = record { within = k.within; reserved = k.reserved; single = λ p. omega (arith, k.single p) }
-keeps_serve r s (q ∷ qs) g k = keeps_serve r (offered s q (decide r s q.client)) qs g (keeps_offered r s q qs (decide r s q.client) refl g k)
+keeps_serve r s (q ∷ qs) g k = keeps_serve r (with_offer s q (decide r s q.client)) qs g (keeps_offered r s q qs (decide r s q.client) refl g k)
 
 -- time
 

@@ -13,6 +13,8 @@ pub mod Orders
 pub mod Frees
 pub mod Standings
 pub mod Replies
-pub mod Denials
 pub mod Positions
 pub mod Sayings
+pub mod Stays
+pub mod Moments
+pub mod Seats

@@ -1,28 +1,30 @@
-use Rattle.std.proofs.Common.{◌≡◌, ℕ, ◌+◌, ◌-◌, ◌<◌, ◌≤◌, Bool, true, false, List, [], ◌∷◌, ◌++◌, length, refl, ◌∙◌, arith, ltb, eqb, not, ◌&&◌, Option, None, Some, map, filter}
+use Rattle.std.proofs.Common.{◌≡◌, ℕ, ◌+◌, ◌-◌, ◌<◌, ◌≤◌, Bool, true, false, List, [], ◌∷◌, ◌++◌, refl, ◌∙◌, arith, ltb, eqb, not, Option, None, Some, map, filter}
 use Rattle.std.specs.List.{count_by, list_all}
 use Rattle.std.proofs.lemmas.Bool.{eqb-false, eq-eqb, ltb-true, ltb-false, lt-ltb}
 use Rattle.lic_types.specs.declared.client.Client.{Client}
 use Rattle.options_machine.specs.declared.decision.Decision.{Decision}
 use Rattle.options_machine.specs.declared.decision.Decision.TheVariants.{Barred, Retake, Capped, Grant, Full}
-use Rattle.options_machine.specs.declared.decision.Place.{Place}
-use Rattle.options_machine.specs.declared.decision.Place.TheVariants.{Told, Untold, Waiting, Away}
+use Rattle.options_machine.specs.declared.decision.Place.TheVariants.{Away}
+use Rattle.options_machine.specs.declared.effect.Effect.{Effect}
+use Rattle.options_machine.specs.declared.effect.Effect.TheVariants.{Nothing, Tell, Release, Linger, Unqueue, Seat, Reseat, Join}
 use Rattle.options_machine.specs.declared.reply.Charge.{Charge}
 use Rattle.options_machine.specs.declared.reply.Entry.{Entry}
-use Rattle.options_machine.specs.declared.reply.Kind.{Kind}
-use Rattle.options_machine.specs.declared.reply.Kind.TheVariants as kind
+use Rattle.options_machine.specs.declared.reply.Task.{Task}
+use Rattle.options_machine.specs.declared.reply.Task.TheVariants.{Answer, Reread}
 use Rattle.options_machine.specs.declared.rows.Holder.{Holder}
 use Rattle.options_machine.specs.declared.rows.Queuer.{Queuer}
 use Rattle.options_machine.specs.Rules.{IsSound, Rules}
-use Rattle.options_machine.specs.State.{State, in_force, is_holder, is_queuer, opening, place, set_at}
+use Rattle.options_machine.specs.State.{State, in_force, is_holder, is_queuer, opening, set_at}
 use Rattle.options_machine.specs.Decide.{decide}
-use Rattle.options_machine.specs.Settle.{in_time, moved, offered, serve, settle, timely, with_holder}
-use Rattle.options_machine.specs.Step.{answered, holders_anew, left, most_lingering, next_charge, released, served_or_reread, set_asked, taken, to_away, to_told, to_untold, to_waiting, told, told_if, waits}
+use Rattle.options_machine.specs.Settle.{in_time, moved, serve, settle, timely, with_holder, with_offer, with_seat}
+use Rattle.options_machine.specs.Apply.{Fits, IsPlace, apply, told_if, with_told, without_holder}
+use Rattle.options_machine.specs.Step.{holders_anew, next_charge, step_of_task, task}
 use Rattle.options_machine.specs.Run.{IsRun, RunsFrom, after, after_entry, after_from}
 use Rattle.options_machine.specs.Law.{AreSets, are_in_order}
 use Rattle.options_machine.specs.Kept.{IsKept}
-use Rattle.options_machine.proofs.Counts.{and_left, and_right, count-cons}
+use Rattle.options_machine.proofs.Counts.{and_left, and_right, count-cons, count_none}
 use Rattle.options_machine.proofs.Keeps.{Keeps, keeps_offered, keeps_timely}
-use Rattle.options_machine.proofs.Steps.{HasNone, IsKeptBy, IsPlace, away_has_none, kept_step, place_is}
+use Rattle.options_machine.proofs.Steps.{IsKeptBy, effect_at, fits_at, kept_step}
 use Rattle.options_machine.proofs.Owns.{all_filter, all_with}
 use Rattle.options_machine.proofs.Runs.{opening_kept}
 
@@ -82,7 +84,7 @@ first_waits r s q qs k =
     let one : count_by (is_queuer q.party) (q ∷ qs) ≡ 1 + count_by (is_queuer q.party) qs = count-cons (is_queuer q.party) q qs ∙ rw (eq-eqb q.party q.party refl) refl in
     omega (arith, one, k.single q.party)
 
-order_offered : (r : Rules) (s : State) (q : Queuer) (qs : List Queuer) (d : Decision) → Keeps r s (q ∷ qs) → are_in_order s.holders ≡ true → are_in_order (offered s q d).holders ≡ true
+order_offered : (r : Rules) (s : State) (q : Queuer) (qs : List Queuer) (d : Decision) → Keeps r s (q ∷ qs) → are_in_order s.holders ≡ true → are_in_order (with_offer s q d).holders ≡ true
 order_offered r s q qs (Barred line) k e = e
 order_offered r s q qs (Retake charge) k e = order_with (record { party = q.party; client = q.client; charge = charge; beat = s.now; told = false }) s.holders (first_waits r s q qs k) e
 order_offered r s q qs (Capped line) k e = e
@@ -92,7 +94,7 @@ order_offered r s q qs Full k e = e
 order_serve : (r : Rules) (s : State) (qs : List Queuer) → IsSound r → Keeps r s qs → are_in_order s.holders ≡ true → are_in_order (serve r s qs).holders ≡ true
 order_serve r s [] g k e = e
 order_serve r s (q ∷ qs) g k e =
-    order_serve r (offered s q (decide r s q.client)) qs g (keeps_offered r s q qs (decide r s q.client) refl g k) (order_offered r s q qs (decide r s q.client) k e)
+    order_serve r (with_offer s q (decide r s q.client)) qs g (keeps_offered r s q qs (decide r s q.client) refl g k) (order_offered r s q qs (decide r s q.client) k e)
 
 order_settle : (r : Rules) (s : State) (moment : ℕ) → IsSound r → IsKept r s → are_in_order s.holders ≡ true → are_in_order (settle r s moment).holders ≡ true
 order_settle r s moment g k e =
@@ -112,7 +114,7 @@ told_party : (b : Bool) (now : ℕ) (h : Holder) → (told_if b now h).party ≡
 told_party true now h = refl
 told_party false now h = refl
 
-order_told : (s : State) (party : ℕ) → are_in_order s.holders ≡ true → are_in_order (told s party).holders ≡ true
+order_told : (s : State) (party : ℕ) → are_in_order s.holders ≡ true → are_in_order (with_told s party).holders ≡ true
 order_told s party e = order_map (λ (h : Holder). told_if (is_holder party h) s.now h) s.holders (λ h. told_party (is_holder party h) s.now h) ∙ e
 
 above_anew : (p : ℕ) (r : Rules) (given : List Charge) (hs : List Holder) → are_above p (holders_anew r given hs) ≡ are_above p hs
@@ -123,85 +125,34 @@ order_anew : (r : Rules) (given : List Charge) (hs : List Holder) → are_in_ord
 order_anew r given [] = refl
 order_anew r given (h ∷ hs) = rw (above_anew h.party r (given ++ next_charge r given h.client ∷ []) hs, order_anew r (given ++ next_charge r given h.client ∷ []) hs) refl
 
--- what each party may ask
+-- an effect
 
-order_released : (s : State) (party : ℕ) → are_in_order s.holders ≡ true → are_in_order (released s party).holders ≡ true
+order_released : (s : State) (party : ℕ) → are_in_order s.holders ≡ true → are_in_order (without_holder s party).holders ≡ true
 order_released s party e = order_filter (λ (h : Holder). not (is_holder party h)) s.holders e
 
-order_left : (r : Rules) (s : State) (h : Holder) (b : Bool) → ltb 0 r.linger && ltb (length s.lingering) most_lingering ≡ b → are_in_order s.holders ≡ true → are_in_order (left r s h).1.holders ≡ true
-order_left r s h true f e = rw f (order_released s h.party e)
-order_left r s h false f e = rw f (order_released s h.party e)
+order_seated : (r : Rules) (s : State) (party : ℕ) (client : Client) (charge : Charge) → IsPlace s party Away → are_in_order s.holders ≡ true → are_in_order (with_seat s party client charge true).holders ≡ true
+order_seated r s party client charge none e =
+    order_with (record { party = party; client = client; charge = charge; beat = s.now; told = true }) s.holders (count_none (is_holder party) s.holders none.0) e
 
-order_to_told : (r : Rules) (s : State) (h : Holder) (asked : Kind) → are_in_order s.holders ≡ true → are_in_order (to_told r s h asked).1.holders ≡ true
-order_to_told r s h kind.Checkout e = e
-order_to_told r s h kind.Queue e = e
-order_to_told r s h kind.Checkin e = order_left r s h (ltb 0 r.linger && ltb (length s.lingering) most_lingering) refl e
-order_to_told r s h kind.Quit e = order_left r s h (ltb 0 r.linger && ltb (length s.lingering) most_lingering) refl e
-order_to_told r s h kind.Beat e = order_told s h.party e
-order_to_told r s h kind.Look e = e
-order_to_told r s h kind.Count e = e
-order_to_told r s h (kind.Reread n) e = e
+order_apply : (r : Rules) (s : State) (party : ℕ) (client : Client) (x : Effect) → Fits r s party client x → are_in_order s.holders ≡ true → are_in_order (apply s party client x).holders ≡ true
+order_apply r s party client Nothing f e = e
+order_apply r s party client Tell f e = order_told s party e
+order_apply r s party client Release f e = order_released s party e
+order_apply r s party client (Linger l) f e = order_released s party e
+order_apply r s party client Unqueue f e = e
+order_apply r s party client (Seat charge) (none, d) e = order_seated r s party client charge none e
+order_apply r s party client (Reseat charge) (none, d) e = order_seated r s party client charge none e
+order_apply r s party client Join f e = e
 
-order_to_untold : (r : Rules) (s : State) (h : Holder) (asked : Kind) → are_in_order s.holders ≡ true → are_in_order (to_untold r s h asked).1.holders ≡ true
-order_to_untold r s h kind.Checkout e = order_told s h.party e
-order_to_untold r s h kind.Queue e = order_told s h.party e
-order_to_untold r s h kind.Look e = order_told s h.party e
-order_to_untold r s h kind.Beat e = order_told s h.party e
-order_to_untold r s h kind.Checkin e = order_released s h.party e
-order_to_untold r s h kind.Quit e = order_released s h.party e
-order_to_untold r s h kind.Count e = e
-order_to_untold r s h (kind.Reread n) e = e
-
-order_waits : (s : State) (q : Queuer) (d : Decision) → are_in_order s.holders ≡ true → are_in_order (waits s q d).1.holders ≡ true
-order_waits s q (Barred line) e = e
-order_waits s q (Retake charge) e = e
-order_waits s q (Capped line) e = e
-order_waits s q (Grant charge) e = e
-order_waits s q Full e = e
-
-order_to_waiting : (r : Rules) (s : State) (q : Queuer) (asked : Kind) → are_in_order s.holders ≡ true → are_in_order (to_waiting r s q asked).1.holders ≡ true
-order_to_waiting r s q kind.Checkout e = order_waits s q (decide r s q.client) e
-order_to_waiting r s q kind.Queue e = order_waits s q (decide r s q.client) e
-order_to_waiting r s q kind.Look e = order_waits s q (decide r s q.client) e
-order_to_waiting r s q kind.Beat e = order_waits s q (decide r s q.client) e
-order_to_waiting r s q kind.Checkin e = e
-order_to_waiting r s q kind.Quit e = e
-order_to_waiting r s q kind.Count e = e
-order_to_waiting r s q (kind.Reread n) e = e
-
-order_taken : (r : Rules) (s : State) (party : ℕ) (client : Client) (may_wait : Bool) (d : Decision) → HasNone s party → are_in_order s.holders ≡ true → are_in_order (taken r s party client may_wait d).1.holders ≡ true
-order_taken r s party client may_wait (Barred line) none e = e
-order_taken r s party client may_wait (Retake charge) none e = order_with (record { party = party; client = client; charge = charge; beat = s.now; told = true }) s.holders (omega (arith, none)) e
-order_taken r s party client may_wait (Capped line) none e = e
-order_taken r s party client may_wait (Grant charge) none e = order_with (record { party = party; client = client; charge = charge; beat = s.now; told = true }) s.holders (omega (arith, none)) e
-order_taken r s party client true Full none e = e
-order_taken r s party client false Full none e = e
-
-order_to_away : (r : Rules) (s : State) (party : ℕ) (client : Client) (asked : Kind) → HasNone s party → are_in_order s.holders ≡ true → are_in_order (to_away r s party client asked).1.holders ≡ true
-order_to_away r s party client kind.Checkout none e = order_taken r s party client false (decide r s client) none e
-order_to_away r s party client kind.Queue none e = order_taken r s party client true (decide r s client) none e
-order_to_away r s party client kind.Checkin none e = e
-order_to_away r s party client kind.Quit none e = e
-order_to_away r s party client kind.Beat none e = e
-order_to_away r s party client kind.Look none e = e
-order_to_away r s party client kind.Count none e = e
-order_to_away r s party client (kind.Reread n) none e = e
-
-order_answered : (r : Rules) (s : State) (party : ℕ) (client : Client) (asked : Kind) (at : Place) → IsPlace s party at → are_in_order s.holders ≡ true → are_in_order (answered r s party client asked at).1.holders ≡ true
-order_answered r s party client asked (Told h) at e = order_to_told r s h asked e
-order_answered r s party client asked (Untold h) at e = order_to_untold r s h asked e
-order_answered r s party client asked (Waiting q) at e = order_to_waiting r s q asked e
-order_answered r s party client asked Away at e = order_to_away r s party client asked (away_has_none s party at) e
-
-order_served : (sets : List Rules) (s : State) (party : ℕ) (client : Client) (asked : Kind) (o : Option ℕ) → are_in_order s.holders ≡ true → are_in_order (served_or_reread sets s party client asked o).1.holders ≡ true
-order_served sets s party client asked None e = order_answered (in_force sets s) s party client asked (place s party) (place_is s party) e
-order_served sets s party client asked (Some n) e = order_anew (set_at sets n) [] s.holders ∙ e
+order_done : (sets : List Rules) (s : State) (party : ℕ) (client : Client) (t : Task) → are_in_order s.holders ≡ true → are_in_order (step_of_task sets s party client t).1.holders ≡ true
+order_done sets s party client (Answer asked) e = order_apply (in_force sets s) s party client (effect_at sets s party client asked) (fits_at sets s party client asked) e
+order_done sets s party client (Reread n) e = order_anew (set_at sets n) [] s.holders ∙ e
 
 -- one step keeps the order, and so does a run
 
 order_step : (sets : List Rules) (count : ℕ) (s : State) (x : Entry) → AreSets sets count → IsKeptBy sets s → are_in_order s.holders ≡ true → are_in_order (after_entry sets s x).holders ≡ true
 order_step sets count s x g k e =
-    order_served sets (settle (in_force sets s) s x.moment) x.request.party x.request.client x.request.kind (set_asked x.request.kind)
+    order_done sets (settle (in_force sets s) s x.moment) x.request.party x.request.client (task x.request.kind)
     (order_settle (in_force sets s) s x.moment (g.sound s.set k.set) k.kept e)
 
 order_run : (sets : List Rules) (count : ℕ) (s : State) (h : List Entry) → AreSets sets count → RunsFrom sets s h → IsKeptBy sets s → are_in_order s.holders ≡ true → are_in_order (after_from sets s h).holders ≡ true

@@ -1,4 +1,4 @@
-use Rattle.std.proofs.Common.{◌≡◌, ℕ, ◌+◌, ◌-◌, ◌≤◌, Bool, true, false, cond, List, [], ◌∷◌, ◌++◌, length, refl, ap, sym, ◌∙◌, arith, subst, ltb, eqb, not, ◌||◌, ◌&&◌, Option, None, Some, map, filter}
+use Rattle.std.proofs.Common.{◌≡◌, ℕ, ◌+◌, ◌-◌, ◌≤◌, Bool, true, false, cond, List, [], ◌∷◌, ◌++◌, refl, ap, sym, ◌∙◌, arith, subst, ltb, eqb, not, ◌||◌, ◌&&◌, Option, None, Some, map, filter}
 use Rattle.std.specs.List.{count_by, find, list_all}
 use Rattle.std.proofs.lemmas.Bool.{eqb-true}
 use Rattle.std.proofs.lemmas.List.Folds.{list_all-append}
@@ -7,20 +7,21 @@ use Rattle.options_machine.specs.declared.decision.Decision.{Decision}
 use Rattle.options_machine.specs.declared.decision.Decision.TheVariants.{Barred, Retake, Capped, Grant, Full}
 use Rattle.options_machine.specs.declared.decision.Place.{Place}
 use Rattle.options_machine.specs.declared.decision.Place.TheVariants.{Told, Untold, Waiting, Away}
+use Rattle.options_machine.specs.declared.effect.Effect.{Effect}
+use Rattle.options_machine.specs.declared.effect.Effect.TheVariants.{Nothing, Tell, Release, Linger, Unqueue, Seat, Reseat, Join}
 use Rattle.options_machine.specs.declared.reply.Charge.{Charge}
-use Rattle.options_machine.specs.declared.reply.Kind.{Kind}
-use Rattle.options_machine.specs.declared.reply.Kind.TheVariants as kind
 use Rattle.options_machine.specs.declared.reply.Reply.{Reply}
 use Rattle.options_machine.specs.declared.rows.Holder.{Holder}
 use Rattle.options_machine.specs.declared.rows.Queuer.{Queuer}
 use Rattle.options_machine.specs.Rules.{Rules}
 use Rattle.options_machine.specs.State.{State, entries, is_holder, is_queuer}
 use Rattle.options_machine.specs.Decide.{decide, is_left_by}
-use Rattle.options_machine.specs.Settle.{in_time, joined, moved, offered, seated, serve, settle, timely, with_holder, without_first}
-use Rattle.options_machine.specs.Step.{answered, charged_anew, holders_anew, left, most_lingering, next_charge, released, taken, to_away, to_told, to_untold, to_waiting, told, told_if, unqueued, waits}
-use Rattle.options_machine.specs.Own.{Agrees, fits_holder, says_holding, says_queueing}
+use Rattle.options_machine.specs.Settle.{in_time, moved, serve, settle, timely, with_holder, with_offer, with_queuer, with_seat, without_first}
+use Rattle.options_machine.specs.Apply.{IsPlace, apply, told_if, with_told, without_holder, without_queuer}
+use Rattle.options_machine.specs.Step.{holders_anew, next_charge, with_charges_anew}
+use Rattle.options_machine.specs.Own.{Agrees, fits_holder, is_of_holding, is_of_queueing, says_queueing}
+use Rattle.options_machine.specs.Replies.{is_pending, is_told}
 use Rattle.options_machine.proofs.Counts.{and_left, and_right, count-cons, count_none}
-use Rattle.options_machine.proofs.Steps.{IsPlace, of_party}
 
 -- what passes everywhere passes in what is left
 
@@ -49,7 +50,7 @@ all_push p xs y all one = list_all-append p xs (y ∷ []) ∙ rw (all, one) refl
 
 -- settling
 
-agrees_offered : (o : Option Reply) (party : ℕ) (s : State) (q : Queuer) (d : Decision) → (not (is_queuer party q) || says_queueing o) ≡ true → Agrees o s party → Agrees o (offered s q d) party
+agrees_offered : (o : Option Reply) (party : ℕ) (s : State) (q : Queuer) (d : Decision) → (not (is_queuer party q) || says_queueing o) ≡ true → Agrees o s party → Agrees o (with_offer s q d) party
 agrees_offered o party s q (Barred line) one a = record { holders = a.holders; queue = all_push (λ (x : Queuer). not (is_queuer party x) || says_queueing o) s.queue q a.queue one }
 agrees_offered o party s q (Retake charge) one a = record { holders = all_with (λ (h : Holder). not (is_holder party h) || fits_holder o h) (record { party = q.party; client = q.client; charge = charge; beat = s.now; told = false }) s.holders one a.holders; queue = a.queue }
 agrees_offered o party s q (Capped line) one a = record { holders = a.holders; queue = all_push (λ (x : Queuer). not (is_queuer party x) || says_queueing o) s.queue q a.queue one }
@@ -59,7 +60,7 @@ agrees_offered o party s q Full one a = record { holders = a.holders; queue = al
 agrees_serve : (o : Option Reply) (party : ℕ) (r : Rules) (s : State) (qs : List Queuer) → list_all (λ (q : Queuer). not (is_queuer party q) || says_queueing o) qs ≡ true → Agrees o s party → Agrees o (serve r s qs) party
 agrees_serve o party r s [] all a = a
 agrees_serve o party r s (q ∷ qs) all a =
-    agrees_serve o party r (offered s q (decide r s q.client)) qs (and_right (not (is_queuer party q) || says_queueing o) (list_all (λ (x : Queuer). not (is_queuer party x) || says_queueing o) qs) all)
+    agrees_serve o party r (with_offer s q (decide r s q.client)) qs (and_right (not (is_queuer party q) || says_queueing o) (list_all (λ (x : Queuer). not (is_queuer party x) || says_queueing o) qs) all)
     (agrees_offered o party s q (decide r s q.client) (and_left (not (is_queuer party q) || says_queueing o) (list_all (λ (x : Queuer). not (is_queuer party x) || says_queueing o) qs) all) a)
 
 pub agrees_settle : (o : Option Reply) (party : ℕ) (r : Rules) (s : State) (moment : ℕ) → Agrees o s party → Agrees o (settle r s moment) party
@@ -73,10 +74,10 @@ anew_same : (o : Option Reply) (party : ℕ) (r : Rules) (given : List Charge) (
 anew_same o party r given [] = refl
 anew_same o party r given (h ∷ hs) = ap (λ (b : Bool). (not (is_holder party h) || fits_holder o h) && b) (anew_same o party r (given ++ next_charge r given h.client ∷ []) hs)
 
-pub agrees_anew : (o : Option Reply) (party : ℕ) (r : Rules) (s : State) → Agrees o s party → Agrees o (charged_anew r s) party
+pub agrees_anew : (o : Option Reply) (party : ℕ) (r : Rules) (s : State) → Agrees o s party → Agrees o (with_charges_anew r s) party
 agrees_anew o party r s a = record { holders = anew_same o party r [] s.holders ∙ a.holders; queue = a.queue }
 
--- another party's answer
+-- an effect on another party
 
 not_of : (p : ℕ) (h : Holder) (b c : Bool) → eqb h.party p ≡ b → (h.party ≡ p → ⊥) → (not (eqb h.party p) || c) ≡ true
 not_of p h true c e other = absurd (other (eqb-true h.party p e))
@@ -93,20 +94,16 @@ all_told o party p now (h ∷ hs) other all =
     let test : Holder → Bool = λ (x : Holder). not (is_holder p x) || fits_holder o x in
     rw (told_other o party p now h (is_holder party h) refl other (and_left (test h) (list_all test hs) all), all_told o party p now hs other (and_right (test h) (list_all test hs) all)) refl
 
-agrees_told : (o : Option Reply) (party p : ℕ) (s : State) → (party ≡ p → ⊥) → Agrees o s p → Agrees o (told s party) p
+agrees_told : (o : Option Reply) (party p : ℕ) (s : State) → (party ≡ p → ⊥) → Agrees o s p → Agrees o (with_told s party) p
 agrees_told o party p s other a = record { holders = all_told o party p s.now s.holders other a.holders; queue = a.queue }
 
-agrees_released : (o : Option Reply) (party p : ℕ) (s : State) → Agrees o s p → Agrees o (released s party) p
+agrees_released : (o : Option Reply) (party p : ℕ) (s : State) → Agrees o s p → Agrees o (without_holder s party) p
 agrees_released o party p s a = record { holders = all_filter (λ (h : Holder). not (is_holder party h)) (λ (h : Holder). not (is_holder p h) || fits_holder o h) s.holders a.holders; queue = a.queue }
 
-agrees_unqueued : (o : Option Reply) (party p : ℕ) (s : State) → Agrees o s p → Agrees o (unqueued s party) p
+agrees_unqueued : (o : Option Reply) (party p : ℕ) (s : State) → Agrees o s p → Agrees o (without_queuer s party) p
 agrees_unqueued o party p s a = record { holders = a.holders; queue = all_filter (λ (q : Queuer). not (is_queuer party q)) (λ (q : Queuer). not (is_queuer p q) || says_queueing o) s.queue a.queue }
 
-agrees_left : (o : Option Reply) (p : ℕ) (r : Rules) (s : State) (h : Holder) (b : Bool) → ltb 0 r.linger && ltb (length s.lingering) most_lingering ≡ b → Agrees o s p → Agrees o (left r s h).1 p
-agrees_left o p r s h true e a = rw e (let gone : Agrees o (released s h.party) p = agrees_released o h.party p s a in record { holders = gone.holders; queue = gone.queue })
-agrees_left o p r s h false e a = rw e (agrees_released o h.party p s a)
-
-agrees_seated : (o : Option Reply) (p : ℕ) (s : State) (party : ℕ) (client : Client) (charge : Charge) (told : Bool) → (party ≡ p → ⊥) → Agrees o s p → Agrees o (seated s party client charge told) p
+agrees_seated : (o : Option Reply) (p : ℕ) (s : State) (party : ℕ) (client : Client) (charge : Charge) (told : Bool) → (party ≡ p → ⊥) → Agrees o s p → Agrees o (with_seat s party client charge told) p
 agrees_seated o p s party client charge told other a =
     let h : Holder = record { party = party; client = client; charge = charge; beat = s.now; told = told } in
     record { holders = all_with (λ (x : Holder). not (is_holder p x) || fits_holder o x) h s.holders (not_of p h (eqb party p) (fits_holder o h) refl other) a.holders; queue = a.queue }
@@ -115,70 +112,19 @@ not_queuer : (p party : ℕ) (b c : Bool) → eqb party p ≡ b → (party ≡ p
 not_queuer p party true c e other = absurd (other (eqb-true party p e))
 not_queuer p party false c e other = rw e refl
 
-agrees_joined : (o : Option Reply) (p : ℕ) (s : State) (q : Queuer) → (q.party ≡ p → ⊥) → Agrees o s p → Agrees o (joined s q) p
+agrees_joined : (o : Option Reply) (p : ℕ) (s : State) (q : Queuer) → (q.party ≡ p → ⊥) → Agrees o s p → Agrees o (with_queuer s q) p
 agrees_joined o p s q other a = record { holders = a.holders; queue = all_push (λ (x : Queuer). not (is_queuer p x) || says_queueing o) s.queue q a.queue (not_queuer p q.party (eqb q.party p) (says_queueing o) refl other) }
 
-other_told : (o : Option Reply) (p : ℕ) (r : Rules) (s : State) (h : Holder) (asked : Kind) → (h.party ≡ p → ⊥) → Agrees o s p → Agrees o (to_told r s h asked).1 p
-other_told o p r s h kind.Checkout other a = a
-other_told o p r s h kind.Queue other a = a
-other_told o p r s h kind.Checkin other a = agrees_left o p r s h (ltb 0 r.linger && ltb (length s.lingering) most_lingering) refl a
-other_told o p r s h kind.Quit other a = agrees_left o p r s h (ltb 0 r.linger && ltb (length s.lingering) most_lingering) refl a
-other_told o p r s h kind.Beat other a = agrees_told o h.party p s other a
-other_told o p r s h kind.Look other a = a
-other_told o p r s h kind.Count other a = a
-other_told o p r s h (kind.Reread n) other a = a
-
-other_untold : (o : Option Reply) (p : ℕ) (r : Rules) (s : State) (h : Holder) (asked : Kind) → (h.party ≡ p → ⊥) → Agrees o s p → Agrees o (to_untold r s h asked).1 p
-other_untold o p r s h kind.Checkout other a = agrees_told o h.party p s other a
-other_untold o p r s h kind.Queue other a = agrees_told o h.party p s other a
-other_untold o p r s h kind.Look other a = agrees_told o h.party p s other a
-other_untold o p r s h kind.Beat other a = agrees_told o h.party p s other a
-other_untold o p r s h kind.Checkin other a = agrees_released o h.party p s a
-other_untold o p r s h kind.Quit other a = agrees_released o h.party p s a
-other_untold o p r s h kind.Count other a = a
-other_untold o p r s h (kind.Reread n) other a = a
-
-other_waits : (o : Option Reply) (p : ℕ) (s : State) (q : Queuer) (d : Decision) → Agrees o s p → Agrees o (waits s q d).1 p
-other_waits o p s q (Barred line) a = agrees_unqueued o q.party p s a
-other_waits o p s q (Retake charge) a = a
-other_waits o p s q (Capped line) a = a
-other_waits o p s q (Grant charge) a = a
-other_waits o p s q Full a = a
-
-other_waiting : (o : Option Reply) (p : ℕ) (r : Rules) (s : State) (q : Queuer) (asked : Kind) → Agrees o s p → Agrees o (to_waiting r s q asked).1 p
-other_waiting o p r s q kind.Checkout a = other_waits o p s q (decide r s q.client) a
-other_waiting o p r s q kind.Queue a = other_waits o p s q (decide r s q.client) a
-other_waiting o p r s q kind.Look a = other_waits o p s q (decide r s q.client) a
-other_waiting o p r s q kind.Beat a = other_waits o p s q (decide r s q.client) a
-other_waiting o p r s q kind.Checkin a = agrees_unqueued o q.party p s a
-other_waiting o p r s q kind.Quit a = agrees_unqueued o q.party p s a
-other_waiting o p r s q kind.Count a = a
-other_waiting o p r s q (kind.Reread n) a = a
-
-other_taken : (o : Option Reply) (p : ℕ) (r : Rules) (s : State) (party : ℕ) (client : Client) (may_wait : Bool) (d : Decision) → (party ≡ p → ⊥) → Agrees o s p → Agrees o (taken r s party client may_wait d).1 p
-other_taken o p r s party client may_wait (Barred line) other a = a
-other_taken o p r s party client may_wait (Retake charge) other a =
+pub other_apply : (o : Option Reply) (p : ℕ) (s : State) (party : ℕ) (client : Client) (x : Effect) → (party ≡ p → ⊥) → Agrees o s p → Agrees o (apply s party client x) p
+other_apply o p s party client Nothing other a = a
+other_apply o p s party client Tell other a = agrees_told o party p s other a
+other_apply o p s party client Release other a = agrees_released o party p s a
+other_apply o p s party client (Linger l) other a = let gone : Agrees o (without_holder s party) p = agrees_released o party p s a in record { holders = gone.holders; queue = gone.queue }
+other_apply o p s party client Unqueue other a = agrees_unqueued o party p s a
+other_apply o p s party client (Seat charge) other a = agrees_seated o p s party client charge true other a
+other_apply o p s party client (Reseat charge) other a =
     agrees_seated o p (record s { lingering = without_first (is_left_by client) s.lingering }) party client charge true other (record { holders = a.holders; queue = a.queue })
-other_taken o p r s party client may_wait (Capped line) other a = a
-other_taken o p r s party client may_wait (Grant charge) other a = agrees_seated o p s party client charge true other a
-other_taken o p r s party client true Full other a = agrees_joined o p s (record { party = party; client = client }) other a
-other_taken o p r s party client false Full other a = a
-
-other_away : (o : Option Reply) (p : ℕ) (r : Rules) (s : State) (party : ℕ) (client : Client) (asked : Kind) → (party ≡ p → ⊥) → Agrees o s p → Agrees o (to_away r s party client asked).1 p
-other_away o p r s party client kind.Checkout other a = other_taken o p r s party client false (decide r s client) other a
-other_away o p r s party client kind.Queue other a = other_taken o p r s party client true (decide r s client) other a
-other_away o p r s party client kind.Checkin other a = a
-other_away o p r s party client kind.Quit other a = a
-other_away o p r s party client kind.Beat other a = a
-other_away o p r s party client kind.Look other a = a
-other_away o p r s party client kind.Count other a = a
-other_away o p r s party client (kind.Reread n) other a = a
-
-pub other_answered : (o : Option Reply) (p : ℕ) (r : Rules) (s : State) (party : ℕ) (client : Client) (asked : Kind) (at : Place) → IsPlace s party at → (party ≡ p → ⊥) → Agrees o s p → Agrees o (answered r s party client asked at).1 p
-other_answered o p r s party client asked (Told h) (e, t) other a = other_told o p r s h asked (λ same. other (sym (of_party party s h e) ∙ same)) a
-other_answered o p r s party client asked (Untold h) (e, t) other a = other_untold o p r s h asked (λ same. other (sym (of_party party s h e) ∙ same)) a
-other_answered o p r s party client asked (Waiting q) e other a = other_waiting o p r s q asked a
-other_answered o p r s party client asked Away e other a = other_away o p r s party client asked other a
+other_apply o p s party client Join other a = agrees_joined o p s (record { party = party; client = client }) other a
 
 -- the party's own answer: where the state after it is read off by place
 
@@ -218,32 +164,25 @@ pub found_one : {X : Type 0} (t : X → Bool) (xs : List X) (y : X) → find t x
 found_one t [] y e = let never : None ≡ Some y = e in cc
 found_one t (x ∷ xs) y e = found_counts t x xs y (t x) refl e (found_one t xs y)
 
--- a state with a told holder, with one that isn't told, with one that waits, and with none
-
-pub agree_told : (o : Option Reply) (s : State) (p : ℕ) (h : Holder) → find (is_holder p) s.holders ≡ Some h → h.told ≡ true → says_holding o ≡ true → entries s p ≤ 1 → Agrees o s p
-agree_told o s p h e t says one =
+-- a reply that says what the party has agrees with it
+pub agree_place : (x : Reply) (s : State) (p : ℕ) (at : Place) → IsPlace s p at → is_of_holding x ≡ is_told at → is_of_queueing x ≡ is_pending at → entries s p ≤ 1 → Agrees (Some x) s p
+agree_place x s p (Told h) (e, t) f g one =
     let here : 1 ≤ count_by (is_holder p) s.holders = found_one (is_holder p) s.holders h e in
     record {
-      holders = only_all (is_holder p) (fits_holder o) s.holders h e (omega (arith, one)) (rw (t, says) refl);
-      queue = none_all (is_queuer p) (λ (q : Queuer). says_queueing o) s.queue (omega (arith, here, one));
+      holders = only_all (is_holder p) (fits_holder (Some x)) s.holders h e (omega (arith, one)) (rw (t, f, g) refl);
+      queue = none_all (is_queuer p) (λ (q : Queuer). says_queueing (Some x)) s.queue (omega (arith, here, one));
     }
-
-pub agree_untold : (o : Option Reply) (s : State) (p : ℕ) (h : Holder) → find (is_holder p) s.holders ≡ Some h → h.told ≡ false → says_queueing o ≡ true → entries s p ≤ 1 → Agrees o s p
-agree_untold o s p h e t says one =
+agree_place x s p (Untold h) (e, t) f g one =
     let here : 1 ≤ count_by (is_holder p) s.holders = found_one (is_holder p) s.holders h e in
     record {
-      holders = only_all (is_holder p) (fits_holder o) s.holders h e (omega (arith, one)) (rw (t, says) refl);
-      queue = none_all (is_queuer p) (λ (q : Queuer). says_queueing o) s.queue (omega (arith, here, one));
+      holders = only_all (is_holder p) (fits_holder (Some x)) s.holders h e (omega (arith, one)) (rw (t, f, g) refl);
+      queue = none_all (is_queuer p) (λ (q : Queuer). says_queueing (Some x)) s.queue (omega (arith, here, one));
     }
-
-pub agree_waiting : (o : Option Reply) (s : State) (p : ℕ) (q : Queuer) → find (is_holder p) s.holders ≡ None → find (is_queuer p) s.queue ≡ Some q → says_queueing o ≡ true → entries s p ≤ 1 → Agrees o s p
-agree_waiting o s p q e f says one = record {
-  holders = none_all (is_holder p) (fits_holder o) s.holders (count_none (is_holder p) s.holders e);
-  queue = only_all (is_queuer p) (λ (x : Queuer). says_queueing o) s.queue q f (omega (arith, one)) says;
+agree_place x s p (Waiting q) (e, w) f g one = record {
+  holders = none_all (is_holder p) (fits_holder (Some x)) s.holders (count_none (is_holder p) s.holders e);
+  queue = only_all (is_queuer p) (λ (y : Queuer). says_queueing (Some x)) s.queue q w (omega (arith, one)) (rw (f, g) refl);
 }
-
-pub agree_none : (o : Option Reply) (s : State) (p : ℕ) → entries s p ≡ 0 → Agrees o s p
-agree_none o s p none = record {
-  holders = none_all (is_holder p) (fits_holder o) s.holders (omega (arith, none));
-  queue = none_all (is_queuer p) (λ (q : Queuer). says_queueing o) s.queue (omega (arith, none));
+agree_place x s p Away (e, w) f g one = record {
+  holders = none_all (is_holder p) (fits_holder (Some x)) s.holders (count_none (is_holder p) s.holders e);
+  queue = none_all (is_queuer p) (λ (q : Queuer). says_queueing (Some x)) s.queue (count_none (is_queuer p) s.queue w);
 }

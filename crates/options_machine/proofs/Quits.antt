@@ -1,10 +1,11 @@
-use Rattle.std.proofs.Common.{◌≡◌, ℕ, Bool, true, false, cond, List, [], ◌∷◌, ◌++◌, length, refl, ap, sym, ◌∙◌, arith, subst, ltb, eqb, not, ◌||◌, ◌&&◌, Option, None, Some}
+use Rattle.std.proofs.Common.{◌≡◌, ℕ, Bool, true, false, cond, List, [], ◌∷◌, ◌++◌, refl, ap, sym, ◌∙◌, arith, subst, eqb, not, ◌||◌, ◌&&◌, Option, None, Some}
 use Rattle.std.specs.List.{count_by, list_all}
 use Rattle.std.specs.Option.{is_none}
 use Rattle.std.proofs.lemmas.Bool.{eq-eqb}
 use Rattle.lic_types.specs.declared.client.Client.{Client}
 use Rattle.options_machine.specs.declared.decision.Place.{Place}
-use Rattle.options_machine.specs.declared.decision.Place.TheVariants.{Told, Untold, Waiting, Away}
+use Rattle.options_machine.specs.declared.decision.Place.TheVariants.{Told}
+use Rattle.options_machine.specs.declared.reply.Ask.TheVariants as ask
 use Rattle.options_machine.specs.declared.reply.Entry.{Entry}
 use Rattle.options_machine.specs.declared.reply.Kind.{Kind}
 use Rattle.options_machine.specs.declared.reply.Kind.TheVariants as kind
@@ -15,7 +16,7 @@ use Rattle.options_machine.specs.declared.rows.Queuer.{Queuer}
 use Rattle.options_machine.specs.Rules.{Rules}
 use Rattle.options_machine.specs.State.{State, entries, in_force, is_holder, is_queuer, opening, place}
 use Rattle.options_machine.specs.Settle.{settle}
-use Rattle.options_machine.specs.Step.{answered, left, most_lingering, served, set_asked, step}
+use Rattle.options_machine.specs.Step.{answer_of, answer_of_return, entry_left, lingers, set_asked, step, step_of_task, task}
 use Rattle.options_machine.specs.Run.{Follows, IsRun, after, after_from}
 use Rattle.options_machine.specs.Law.{AreSets}
 use Rattle.options_machine.specs.Own.{Agrees, fits_holder, holds, is_of_holding, is_of_queueing, is_some_of, queues, says_holding, says_queueing, standing, standing_from, standing_then}
@@ -32,20 +33,18 @@ standing-snoc p o (x ∷ xs) e = standing-snoc p (standing_then p o x) xs e
 abbrev pub SaysNeither : Reply → Type 0
 SaysNeither r = (is_of_holding r ≡ false) × (is_of_queueing r ≡ false)
 
-quit_left : (r : Rules) (s : State) (h : Holder) (b : Bool) → ltb 0 r.linger && ltb (length s.lingering) most_lingering ≡ b → SaysNeither (left r s h).0
-quit_left r s h true e = (rw e refl, rw e refl)
-quit_left r s h false e = (rw e refl, rw e refl)
+quit_given_back : (r : Rules) (s : State) (h : Holder) (b : Bool) → lingers r s ≡ b → SaysNeither (answer_of_return (entry_left r s h)).0
+quit_given_back r s h true e = rw e (refl, refl)
+quit_given_back r s h false e = rw e (refl, refl)
 
-quit_answered : (r : Rules) (s : State) (party : ℕ) (client : Client) (at : Place) → SaysNeither (answered r s party client kind.Quit at).0
-quit_answered r s party client (Told h) = quit_left r s h (ltb 0 r.linger && ltb (length s.lingering) most_lingering) refl
-quit_answered r s party client (Untold h) = (refl, refl)
-quit_answered r s party client (Waiting q) = (refl, refl)
-quit_answered r s party client Away = (refl, refl)
+quit_answer : (r : Rules) (s : State) (party : ℕ) (client : Client) (at : Place) → SaysNeither (answer_of r s party client ask.GiveBack at).0
+quit_answer r s party client (Told h) = quit_given_back r s h (lingers r s) refl
+quit_answer r s party client other = (refl, refl)
 
-pub quit_reply : (sets : List Rules) (s : State) (request : Request) (moment : ℕ) → request.kind ≡ kind.Quit → SaysNeither (step sets s request moment).0
+quit_reply : (sets : List Rules) (s : State) (request : Request) (moment : ℕ) → request.kind ≡ kind.Quit → SaysNeither (step sets s request moment).0
 quit_reply sets s request moment e =
     let mid : State = settle (in_force sets s) s moment in
-    subst (λ (k : Kind). SaysNeither (served sets mid request.party request.client k).0) (sym e) (quit_answered (in_force sets mid) mid request.party request.client (place mid request.party))
+    subst (λ (k : Kind). SaysNeither (step_of_task sets mid request.party request.client (task k)).0) (sym e) (quit_answer (in_force sets mid) mid request.party request.client (place mid request.party))
 
 none_step : {X : Type 0} (t ok : X → Bool) (x : X) (xs : List X) (b : Bool) → t x ≡ b → ok x ≡ false → (list_all (λ (y : X). not (t y) || ok y) xs ≡ true → count_by t xs ≡ 0) → list_all (λ (y : X). not (t y) || ok y) (x ∷ xs) ≡ true → count_by t (x ∷ xs) ≡ 0
 none_step t ok x xs true e bad f h = let never : false ≡ true = rw (e, bad) at h in cc

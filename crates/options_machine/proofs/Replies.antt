@@ -1,258 +1,394 @@
-use Rattle.std.proofs.Common.{◌≡◌, ℕ, ◌+◌, Bool, true, false, cond, List, length, refl, ap, sym, ◌∙◌, not, ◌↔◌}
+use Rattle.std.proofs.Common.{◌≡◌, ℕ, ◌+◌, ◌≤◌, Bool, true, false, cond, List, refl, ap, sym, ◌∙◌, arith, subst, ltb, not, ◌&&◌, ◌↔◌, ◌⊎◌, inl, inr, Option, None, Some}
+use Rattle.std.specs.List.{list_any}
+use Rattle.std.specs.Option.{is_some}
+use Rattle.std.proofs.lemmas.Bool.{ltb-false}
 use Rattle.lic_types.specs.declared.client.Client.{Client}
 use Rattle.options_machine.specs.declared.decision.Decision.{Decision}
 use Rattle.options_machine.specs.declared.decision.Decision.TheVariants.{Barred, Retake, Capped, Grant, Full}
 use Rattle.options_machine.specs.declared.decision.Place.{Place}
 use Rattle.options_machine.specs.declared.decision.Place.TheVariants.{Told, Untold, Waiting, Away}
+use Rattle.options_machine.specs.declared.reply.Ask.{Ask}
+use Rattle.options_machine.specs.declared.reply.Ask.TheVariants as ask
 use Rattle.options_machine.specs.declared.reply.Charge.{Charge}
-use Rattle.options_machine.specs.declared.reply.Charge.TheVariants.{Open}
+use Rattle.options_machine.specs.declared.reply.Charge.TheVariants.{Reserve, Open}
 use Rattle.options_machine.specs.declared.reply.Kind.{Kind}
 use Rattle.options_machine.specs.declared.reply.Kind.TheVariants as kind
 use Rattle.options_machine.specs.declared.reply.Reply.{Reply}
 use Rattle.options_machine.specs.declared.reply.Reply.TheVariants as reply
 use Rattle.options_machine.specs.declared.reply.Request.{Request}
+use Rattle.options_machine.specs.declared.reply.Task.{Task}
+use Rattle.options_machine.specs.declared.reply.Task.TheVariants.{Answer, Reread}
 use Rattle.options_machine.specs.declared.rows.Holder.{Holder}
 use Rattle.options_machine.specs.declared.rows.Queuer.{Queuer}
 use Rattle.options_machine.specs.Rules.{Rules}
-use Rattle.options_machine.specs.State.{State, charges, in_force, place}
-use Rattle.options_machine.specs.Decide.{decide}
-use Rattle.options_machine.specs.Step.{answered, left, position_of, served, taken, waits}
-use Rattle.options_machine.specs.Replies.{IsLeft, asks_for_seat, found, gives_back, goes_at_once, is_about_own_seat, is_told, is_waiting, lingers, reply_to, rules_found}
+use Rattle.options_machine.specs.State.{State, charges, in_force, in_use, place}
+use Rattle.options_machine.specs.Decide.{decide, excluded, has_room, is_reached, not_included, number_of_limit, reached, reserved, retaken, unless}
+use Rattle.options_machine.specs.Step.{answer_by_decision, answer_of, answer_of_return, entry_left, lingers, set_asked, set_of, standing_of, step_of_task, task, to_away, to_told, to_untold, to_waiting}
+use Rattle.options_machine.specs.Own.{is_of_holding, is_of_queueing}
+use Rattle.options_machine.specs.Replies.{IsBarredInQueue, IsDenied, IsFull, IsGranted, IsLeft, IsRetaken, IsToldLate, asks_such, found, gives_back, goes_at_once, is_about_own_seat, is_for_seat, is_for_standing, is_giving_back, is_of_own_seat, is_pending, is_told, is_waiting, asks_for_seat, line_of_denial, reply_to, rules_found}
+use Rattle.options_machine.proofs.Counts.{some_found}
+use Rattle.options_machine.proofs.Keeps.{unless_else}
+use Rattle.options_machine.proofs.Served.{reserved_some}
 
--- a reply is that of the table, also to a request for another rule set
+-- when a reply comes, by the table: to what is asked by a party that has this
+abbrev pub When : Rules → State → Client → Task → Place → Reply → Type 0
+When r s client t at (reply.Granted charge) =
+    ((asks_such is_for_seat t ≡ true) × (at ≡ Away) × (decide r s client ≡ Grant charge))
+    ⊎ ((h : Holder) × (asks_such is_for_standing t ≡ true) × (at ≡ Untold h) × (h.charge ≡ charge))
+When r s client t at (reply.Retaken charge) = (asks_such is_for_seat t ≡ true) × (at ≡ Away) × (decide r s client ≡ Retake charge)
+When r s client t at (reply.Denied line) =
+    ((asks_such is_for_seat t ≡ true) × (at ≡ Away) × (line_of_denial (decide r s client) ≡ Some line))
+    ⊎ ((q : Queuer) × (asks_such is_for_standing t ≡ true) × (at ≡ Waiting q) × (decide r s q.client ≡ Barred line))
+When r s client t at (reply.NoSeat a b) = (t ≡ Answer (ask.Seat false)) × (at ≡ Away) × (decide r s client ≡ Full) × (a ≡ charges s Open) × (b ≡ r.free)
+When r s client t at reply.AlreadyHeld = (asks_such is_for_seat t ≡ true) × (is_told at ≡ true)
+When r s client t at reply.Returned = (asks_such is_giving_back t ≡ true) × (goes_at_once r s at ≡ true)
+When r s client t at (reply.Lingering until) = (asks_such is_giving_back t ≡ true) × (is_told at ≡ true) × (lingers r s ≡ true) × (until ≡ s.now + r.linger)
+When r s client t at reply.NotHeld = (asks_such is_of_own_seat t ≡ true) × (at ≡ Away)
+When r s client t at reply.Unqueued = (asks_such is_giving_back t ≡ true) × (is_waiting at ≡ true)
+When r s client t at reply.Beaten = is_told at ≡ true
+When r s client t at reply.Held = is_told at ≡ true
+When r s client t at (reply.Counts held lingering taken free own queued) = (own ≡ is_told at) × (queued ≡ is_pending at)
+When r s client t at (reply.Reread set) = t ≡ Reread set
+When r s client t at (reply.Queued position) = Unit {0}
 
-reread_reply : (r : Rules) (s : State) (party : ℕ) (client : Client) (n : ℕ) (at : Place) → (answered r s party client (kind.Reread n) at).0 ≡ reply.Reread n
-reread_reply r s party client n (Told h) = refl
-reread_reply r s party client n (Untold h) = refl
-reread_reply r s party client n (Waiting q) = refl
-reread_reply r s party client n Away = refl
+-- each reply of the table comes when it says
 
-served_reply : (sets : List Rules) (s : State) (party : ℕ) (client : Client) (asked : Kind) → (served sets s party client asked).0 ≡ (answered (in_force sets s) s party client asked (place s party)).0
-served_reply sets s party client kind.Checkout = refl
-served_reply sets s party client kind.Queue = refl
-served_reply sets s party client kind.Checkin = refl
-served_reply sets s party client kind.Quit = refl
-served_reply sets s party client kind.Beat = refl
-served_reply sets s party client kind.Look = refl
-served_reply sets s party client kind.Count = refl
-served_reply sets s party client (kind.Reread n) = sym (reread_reply (in_force sets s) s party client n (place s party))
+when_given_back : (r : Rules) (s : State) (client : Client) (h : Holder) (b : Bool) → lingers r s ≡ b → When r s client (Answer ask.GiveBack) (Told h) (answer_of_return (entry_left r s h)).0
+when_given_back r s client h true e = rw e (refl, refl, e, refl)
+when_given_back r s client h false e = rw e (refl, ap not e)
 
--- so a law of the table is one of the step
-pub of_table : (sets : List Rules) (s : State) (request : Request) (moment : ℕ) (answer : Reply) (C : Type 0)
-    → (((answered (rules_found sets s moment) (found sets s moment) request.party request.client request.kind (place (found sets s moment) request.party)).0 ≡ answer) ↔ C)
-    → (reply_to sets s request moment ≡ answer) ↔ C
-of_table sets s request moment answer C (told, comes) =
-    let same : reply_to sets s request moment ≡ (answered (rules_found sets s moment) (found sets s moment) request.party request.client request.kind (place (found sets s moment) request.party)).0
-    = served_reply sets (found sets s moment) request.party request.client request.kind in
-    (λ e. told (sym same ∙ e), λ c. same ∙ comes c)
+when_told : (r : Rules) (s : State) (client : Client) (h : Holder) (asked : Ask) → When r s client (Answer asked) (Told h) (to_told r s h asked).0
+when_told r s client h (ask.Seat may_wait) = (refl, refl)
+when_told r s client h ask.GiveBack = when_given_back r s client h (lingers r s) refl
+when_told r s client h ask.Count = (refl, refl)
+when_told r s client h other = refl
 
--- the answers of a seat that is given back, of a place in the queue, and of a party that has nothing
+when_untold : (r : Rules) (s : State) (client : Client) (h : Holder) (asked : Ask) → When r s client (Answer asked) (Untold h) (to_untold r s h asked).0
+when_untold r s client h ask.GiveBack = (refl, refl)
+when_untold r s client h ask.Count = (refl, refl)
+when_untold r s client h other = inr (h, refl, refl, refl)
 
-pub left_reply : (r : Rules) (s : State) (h : Holder) (b : Bool) → lingers r s ≡ b → (left r s h).0 ≡ cond b (reply.Lingering (s.now + r.linger)) reply.Returned
-left_reply r s h true e = rw e refl
-left_reply r s h false e = rw e refl
+when_standing : (r : Rules) (s : State) (party : ℕ) (client : Client) (q : Queuer) (asked : Ask) (d : Decision) → is_for_standing asked ≡ true → decide r s q.client ≡ d → When r s client (Answer asked) (Waiting q) (standing_of s party d).0
+when_standing r s party client q asked (Barred line) a e = inr (q, a, refl, e)
+when_standing r s party client q asked other a e = tt
 
--- no answer of a seat that is given back
-abbrev pub IsNotOfLeaving : Reply → Type 0
-IsNotOfLeaving x = ((until : ℕ) → reply.Lingering until ≡ x → ⊥) × (reply.Returned ≡ x → ⊥)
+when_waiting : (r : Rules) (s : State) (party : ℕ) (client : Client) (q : Queuer) (asked : Ask) → When r s client (Answer asked) (Waiting q) (to_waiting r s party q.client asked).0
+when_waiting r s party client q ask.GiveBack = (refl, refl)
+when_waiting r s party client q ask.Count = (refl, refl)
+when_waiting r s party client q (ask.Seat may_wait) = when_standing r s party client q (ask.Seat may_wait) (decide r s q.client) refl refl
+when_waiting r s party client q ask.Beat = when_standing r s party client q ask.Beat (decide r s q.client) refl refl
+when_waiting r s party client q ask.Look = when_standing r s party client q ask.Look (decide r s q.client) refl refl
 
-left_step : (r : Rules) (s : State) (h : Holder) (x : Reply) (b : Bool) → lingers r s ≡ b → IsNotOfLeaving x → (left r s h).0 ≡ x → ⊥
-left_step r s h x true e (one, two) f = one (s.now + r.linger) (sym (left_reply r s h true e) ∙ f)
-left_step r s h x false e (one, two) f = two (sym (left_reply r s h false e) ∙ f)
+when_decided : (r : Rules) (s : State) (client : Client) (may_wait : Bool) (d : Decision) → decide r s client ≡ d → When r s client (Answer (ask.Seat may_wait)) Away (answer_by_decision r s may_wait d).0
+when_decided r s client may_wait (Barred line) e = inl (refl, refl, ap line_of_denial e)
+when_decided r s client may_wait (Retake charge) e = (refl, refl, e)
+when_decided r s client may_wait (Capped line) e = inl (refl, refl, ap line_of_denial e)
+when_decided r s client may_wait (Grant charge) e = inl (refl, refl, e)
+when_decided r s client true Full e = tt
+when_decided r s client false Full e = (refl, refl, e, refl, refl)
 
-pub left_never : (r : Rules) (s : State) (h : Holder) (x : Reply) → IsNotOfLeaving x → (left r s h).0 ≡ x → ⊥
-left_never r s h x apart e = left_step r s h x (lingers r s) refl apart e
+when_away : (r : Rules) (s : State) (client : Client) (asked : Ask) → When r s client (Answer asked) Away (to_away r s client asked).0
+when_away r s client (ask.Seat may_wait) = when_decided r s client may_wait (decide r s client) refl
+when_away r s client other = (refl, refl)
 
--- no answer of one that waits
-abbrev pub IsNotOfWaiting : Reply → Type 0
-IsNotOfWaiting x = ((line : ℕ) → reply.Denied line ≡ x → ⊥) × ((n : ℕ) → reply.Queued n ≡ x → ⊥)
+when_answer : (r : Rules) (s : State) (party : ℕ) (client : Client) (asked : Ask) (at : Place) → When r s client (Answer asked) at (answer_of r s party client asked at).0
+when_answer r s party client asked (Told h) = when_told r s client h asked
+when_answer r s party client asked (Untold h) = when_untold r s client h asked
+when_answer r s party client asked (Waiting q) = when_waiting r s party client q asked
+when_answer r s party client asked Away = when_away r s client asked
 
-pub waits_never : (s : State) (q : Queuer) (d : Decision) (x : Reply) → IsNotOfWaiting x → (waits s q d).0 ≡ x → ⊥
-waits_never s q (Barred line) x (one, two) e = one line e
-waits_never s q (Retake charge) x (one, two) e = two (position_of s q.party) e
-waits_never s q (Capped line) x (one, two) e = two (position_of s q.party) e
-waits_never s q (Grant charge) x (one, two) e = two (position_of s q.party) e
-waits_never s q Full x (one, two) e = two (position_of s q.party) e
+when_done : (sets : List Rules) (s : State) (party : ℕ) (client : Client) (t : Task) → When (in_force sets s) s client t (place s party) (step_of_task sets s party client t).0
+when_done sets s party client (Answer asked) = when_answer (in_force sets s) s party client asked (place s party)
+when_done sets s party client (Reread n) = refl
 
--- no answer of one that asks for a seat
-pub record IsNotOfAsking (x : Reply) : Type 0 where
-  pub denied : (line : ℕ) → reply.Denied line ≡ x → ⊥
-  pub retaken : (charge : Charge) → reply.Retaken charge ≡ x → ⊥
-  pub granted : (charge : Charge) → reply.Granted charge ≡ x → ⊥
-  pub queued : (n : ℕ) → reply.Queued n ≡ x → ⊥
-  pub full : (a b : ℕ) → reply.NoSeat a b ≡ x → ⊥
+pub when_reply : (sets : List Rules) (s : State) (request : Request) (moment : ℕ) (x : Reply) → reply_to sets s request moment ≡ x → When (rules_found sets s moment) (found sets s moment) request.client (task request.kind) (place (found sets s moment) request.party) x
+when_reply sets s request moment x e =
+    subst (When (rules_found sets s moment) (found sets s moment) request.client (task request.kind) (place (found sets s moment) request.party)) e
+    (when_done sets (found sets s moment) request.party request.client (task request.kind))
 
-pub taken_never : (r : Rules) (s : State) (party : ℕ) (client : Client) (may_wait : Bool) (d : Decision) (x : Reply) → IsNotOfAsking x → (taken r s party client may_wait d).0 ≡ x → ⊥
-taken_never r s party client may_wait (Barred line) x apart e = apart.denied line e
-taken_never r s party client may_wait (Retake charge) x apart e = apart.retaken charge e
-taken_never r s party client may_wait (Capped line) x apart e = apart.denied line e
-taken_never r s party client may_wait (Grant charge) x apart e = apart.granted charge e
-taken_never r s party client true Full x apart e = apart.queued (length s.queue + 1) e
-taken_never r s party client false Full x apart e = apart.full (charges s Open) r.free e
+-- and where it says so, that reply comes
 
-pub not_asking_of : (x : Reply) → ((line : ℕ) → reply.Denied line ≡ x → ⊥) → ((charge : Charge) → reply.Retaken charge ≡ x → ⊥) → ((charge : Charge) → reply.Granted charge ≡ x → ⊥) → ((n : ℕ) → reply.Queued n ≡ x → ⊥) → ((a b : ℕ) → reply.NoSeat a b ≡ x → ⊥) → IsNotOfAsking x
-not_asking_of x a b c d e = record { denied = a; retaken = b; granted = c; queued = d; full = e }
+-- what is replied to a task at a place
+abbrev replied : Rules → State → ℕ → Client → Place → Task → Reply
+replied r s party client at (Answer asked) = (answer_of r s party client asked at).0
+replied r s party client at (Reread n) = reply.Reread n
 
--- AlreadyHeld
+done_replied : (sets : List Rules) (s : State) (party : ℕ) (client : Client) (t : Task) → (step_of_task sets s party client t).0 ≡ replied (in_force sets s) s party client (place s party) t
+done_replied sets s party client (Answer asked) = refl
+done_replied sets s party client (Reread n) = refl
 
-already_held_leaving : IsNotOfLeaving reply.AlreadyHeld
-already_held_leaving = (λ until e. cc, λ e. cc)
+step_replied : (sets : List Rules) (s : State) (request : Request) (moment : ℕ) (x : Reply) → replied (rules_found sets s moment) (found sets s moment) request.party request.client (place (found sets s moment) request.party) (task request.kind) ≡ x → reply_to sets s request moment ≡ x
+step_replied sets s request moment x e = done_replied sets (found sets s moment) request.party request.client (task request.kind) ∙ e
 
-already_held_waiting : IsNotOfWaiting reply.AlreadyHeld
-already_held_waiting = (λ line e. cc, λ n e. cc)
+seat_told : (r : Rules) (s : State) (party : ℕ) (client : Client) (at : Place) (t : Task) → asks_such is_for_seat t ≡ true → is_told at ≡ true → replied r s party client at t ≡ reply.AlreadyHeld
+seat_told r s party client (Told h) (Answer (ask.Seat may_wait)) a e = refl
+seat_told r s party client at (Answer (ask.Seat may_wait)) a e = let never : false ≡ true = e in absurd (cc)
+seat_told r s party client at t a e = let never : false ≡ true = a in absurd (cc)
 
-already_held_asking : IsNotOfAsking reply.AlreadyHeld
-already_held_asking = record { denied = λ line e. cc; retaken = λ charge e. cc; granted = λ charge e. cc; queued = λ n e. cc; full = λ a b e. cc }
+seat_away : (r : Rules) (s : State) (party : ℕ) (client : Client) (t : Task) (d : Decision) (x : Reply) → asks_such is_for_seat t ≡ true → decide r s client ≡ d → ((may_wait : Bool) → (answer_by_decision r s may_wait d).0 ≡ x) → replied r s party client Away t ≡ x
+seat_away r s party client (Answer (ask.Seat may_wait)) d x a e f = ap (λ (y : Decision). (answer_by_decision r s may_wait y).0) e ∙ f may_wait
+seat_away r s party client t d x a e f = let never : false ≡ true = a in absurd (cc)
 
-already_held : (r : Rules) (s : State) (party : ℕ) (client : Client) (asked : Kind) (at : Place) → ((answered r s party client asked at).0 ≡ reply.AlreadyHeld) ↔ ((asks_for_seat asked ≡ true) × (is_told at ≡ true))
-already_held r s party client kind.Checkout (Told h) = (λ e. (refl, refl), λ c. refl)
-already_held r s party client kind.Queue (Told h) = (λ e. (refl, refl), λ c. refl)
-already_held r s party client kind.Checkin (Told h) = (λ e. absurd (left_never r s h reply.AlreadyHeld already_held_leaving e), λ c. cc)
-already_held r s party client kind.Quit (Told h) = (λ e. absurd (left_never r s h reply.AlreadyHeld already_held_leaving e), λ c. cc)
-already_held r s party client kind.Checkout (Waiting q) = (λ e. absurd (waits_never s q (decide r s q.client) reply.AlreadyHeld already_held_waiting e), λ c. cc)
-already_held r s party client kind.Queue (Waiting q) = (λ e. absurd (waits_never s q (decide r s q.client) reply.AlreadyHeld already_held_waiting e), λ c. cc)
-already_held r s party client kind.Beat (Waiting q) = (λ e. absurd (waits_never s q (decide r s q.client) reply.AlreadyHeld already_held_waiting e), λ c. cc)
-already_held r s party client kind.Look (Waiting q) = (λ e. absurd (waits_never s q (decide r s q.client) reply.AlreadyHeld already_held_waiting e), λ c. cc)
-already_held r s party client kind.Checkout Away = (λ e. absurd (taken_never r s party client false (decide r s client) reply.AlreadyHeld already_held_asking e), λ c. cc)
-already_held r s party client kind.Queue Away = (λ e. absurd (taken_never r s party client true (decide r s client) reply.AlreadyHeld already_held_asking e), λ c. cc)
-already_held r s party client kind.Count (Told h) = (λ e. cc, λ c. cc)
-already_held r s party client (kind.Reread n) (Told h) = (λ e. cc, λ c. cc)
-already_held r s party client asked at = (λ e. cc, λ c. cc)
+standing_untold : (r : Rules) (s : State) (party : ℕ) (client : Client) (h : Holder) (t : Task) → asks_such is_for_standing t ≡ true → replied r s party client (Untold h) t ≡ reply.Granted h.charge
+standing_untold r s party client h (Answer (ask.Seat may_wait)) a = refl
+standing_untold r s party client h (Answer ask.Beat) a = refl
+standing_untold r s party client h (Answer ask.Look) a = refl
+standing_untold r s party client h t a = let never : false ≡ true = a in absurd (cc)
+
+standing_waiting : (r : Rules) (s : State) (party : ℕ) (client : Client) (q : Queuer) (t : Task) → asks_such is_for_standing t ≡ true → replied r s party client (Waiting q) t ≡ (standing_of s party (decide r s q.client)).0
+standing_waiting r s party client q (Answer (ask.Seat may_wait)) a = refl
+standing_waiting r s party client q (Answer ask.Beat) a = refl
+standing_waiting r s party client q (Answer ask.Look) a = refl
+standing_waiting r s party client q t a = let never : false ≡ true = a in absurd (cc)
+
+stays : (r : Rules) (s : State) (h : Holder) → lingers r s ≡ true → (answer_of_return (entry_left r s h)).0 ≡ reply.Lingering (s.now + r.linger)
+stays r s h e = rw e refl
+
+giving_told : (r : Rules) (s : State) (party : ℕ) (client : Client) (at : Place) (t : Task) → asks_such is_giving_back t ≡ true → is_told at ≡ true → lingers r s ≡ true → replied r s party client at t ≡ reply.Lingering (s.now + r.linger)
+giving_told r s party client (Told h) (Answer ask.GiveBack) a e f = stays r s h f
+giving_told r s party client at (Answer ask.GiveBack) a e f = let never : false ≡ true = e in absurd (cc)
+giving_told r s party client at t a e f = let never : false ≡ true = a in absurd (cc)
+
+goes : (r : Rules) (s : State) (h : Holder) (b : Bool) → lingers r s ≡ b → not b ≡ true → (answer_of_return (entry_left r s h)).0 ≡ reply.Returned
+goes r s h true e f = let never : false ≡ true = f in absurd (cc)
+goes r s h false e f = rw e refl
+
+giving_up : (r : Rules) (s : State) (party : ℕ) (client : Client) (at : Place) (t : Task) → asks_such is_giving_back t ≡ true → goes_at_once r s at ≡ true → replied r s party client at t ≡ reply.Returned
+giving_up r s party client (Told h) (Answer ask.GiveBack) a e = goes r s h (lingers r s) refl e
+giving_up r s party client (Untold h) (Answer ask.GiveBack) a e = refl
+giving_up r s party client at (Answer ask.GiveBack) a e = let never : false ≡ true = e in absurd (cc)
+giving_up r s party client at t a e = let never : false ≡ true = a in absurd (cc)
+
+giving_place : (r : Rules) (s : State) (party : ℕ) (client : Client) (at : Place) (t : Task) → asks_such is_giving_back t ≡ true → is_waiting at ≡ true → replied r s party client at t ≡ reply.Unqueued
+giving_place r s party client (Waiting q) (Answer ask.GiveBack) a e = refl
+giving_place r s party client at (Answer ask.GiveBack) a e = let never : false ≡ true = e in absurd (cc)
+giving_place r s party client at t a e = let never : false ≡ true = a in absurd (cc)
+
+own_away : (r : Rules) (s : State) (party : ℕ) (client : Client) (t : Task) → asks_such is_of_own_seat t ≡ true → replied r s party client Away t ≡ reply.NotHeld
+own_away r s party client (Answer ask.GiveBack) a = refl
+own_away r s party client (Answer ask.Beat) a = refl
+own_away r s party client (Answer ask.Look) a = refl
+own_away r s party client t a = let never : false ≡ true = a in absurd (cc)
+
+-- at a place that is known
+at_place : (r : Rules) (s : State) (party : ℕ) (client : Client) (t : Task) (at : Place) (x : Reply) → place s party ≡ at → replied r s party client at t ≡ x → replied r s party client (place s party) t ≡ x
+at_place r s party client t at x e f = ap (λ (p : Place). replied r s party client p t) e ∙ f
+
+-- the laws
 
 pub seats_held_once : (sets : List Rules) (s : State) (request : Request) (moment : ℕ) → (reply_to sets s request moment ≡ reply.AlreadyHeld) ↔ ((asks_for_seat request.kind ≡ true) × (is_told (place (found sets s moment) request.party) ≡ true))
 seats_held_once sets s request moment =
-    of_table sets s request moment reply.AlreadyHeld _ (already_held (rules_found sets s moment) (found sets s moment) request.party request.client request.kind (place (found sets s moment) request.party))
-
--- Unqueued
-
-unqueued_of_leaving : IsNotOfLeaving reply.Unqueued
-unqueued_of_leaving = (λ until e. cc, λ e. cc)
-
-unqueued_of_waiting : IsNotOfWaiting reply.Unqueued
-unqueued_of_waiting = (λ line e. cc, λ n e. cc)
-
-unqueued_of_asking : IsNotOfAsking reply.Unqueued
-unqueued_of_asking = record { denied = λ line e. cc; retaken = λ charge e. cc; granted = λ charge e. cc; queued = λ n e. cc; full = λ a b e. cc }
-
-unqueued_of : (r : Rules) (s : State) (party : ℕ) (client : Client) (asked : Kind) (at : Place) → ((answered r s party client asked at).0 ≡ reply.Unqueued) ↔ ((gives_back asked ≡ true) × (is_waiting at ≡ true))
-unqueued_of r s party client kind.Checkin (Waiting q) = (λ e. (refl, refl), λ c. refl)
-unqueued_of r s party client kind.Quit (Waiting q) = (λ e. (refl, refl), λ c. refl)
-unqueued_of r s party client kind.Checkin (Told h) = (λ e. absurd (left_never r s h reply.Unqueued unqueued_of_leaving e), λ c. cc)
-unqueued_of r s party client kind.Quit (Told h) = (λ e. absurd (left_never r s h reply.Unqueued unqueued_of_leaving e), λ c. cc)
-unqueued_of r s party client kind.Checkout (Waiting q) = (λ e. absurd (waits_never s q (decide r s q.client) reply.Unqueued unqueued_of_waiting e), λ c. cc)
-unqueued_of r s party client kind.Queue (Waiting q) = (λ e. absurd (waits_never s q (decide r s q.client) reply.Unqueued unqueued_of_waiting e), λ c. cc)
-unqueued_of r s party client kind.Beat (Waiting q) = (λ e. absurd (waits_never s q (decide r s q.client) reply.Unqueued unqueued_of_waiting e), λ c. cc)
-unqueued_of r s party client kind.Look (Waiting q) = (λ e. absurd (waits_never s q (decide r s q.client) reply.Unqueued unqueued_of_waiting e), λ c. cc)
-unqueued_of r s party client kind.Checkout Away = (λ e. absurd (taken_never r s party client false (decide r s client) reply.Unqueued unqueued_of_asking e), λ c. cc)
-unqueued_of r s party client kind.Queue Away = (λ e. absurd (taken_never r s party client true (decide r s client) reply.Unqueued unqueued_of_asking e), λ c. cc)
-unqueued_of r s party client kind.Count (Told h) = (λ e. cc, λ c. cc)
-unqueued_of r s party client (kind.Reread n) (Told h) = (λ e. cc, λ c. cc)
-unqueued_of r s party client asked at = (λ e. cc, λ c. cc)
+    (λ e. when_reply sets s request moment reply.AlreadyHeld e, λ c. step_replied sets s request moment reply.AlreadyHeld (seat_told (rules_found sets s moment) (found sets s moment) request.party request.client (place (found sets s moment) request.party) (task request.kind) c.0 c.1))
 
 pub places_given_back : (sets : List Rules) (s : State) (request : Request) (moment : ℕ) → (reply_to sets s request moment ≡ reply.Unqueued) ↔ ((gives_back request.kind ≡ true) × (is_waiting (place (found sets s moment) request.party) ≡ true))
 places_given_back sets s request moment =
-    of_table sets s request moment reply.Unqueued _ (unqueued_of (rules_found sets s moment) (found sets s moment) request.party request.client request.kind (place (found sets s moment) request.party))
-
--- NotHeld
-
-not_held_leaving : IsNotOfLeaving reply.NotHeld
-not_held_leaving = (λ until e. cc, λ e. cc)
-
-not_held_waiting : IsNotOfWaiting reply.NotHeld
-not_held_waiting = (λ line e. cc, λ n e. cc)
-
-not_held_asking : IsNotOfAsking reply.NotHeld
-not_held_asking = record { denied = λ line e. cc; retaken = λ charge e. cc; granted = λ charge e. cc; queued = λ n e. cc; full = λ a b e. cc }
-
-not_held : (r : Rules) (s : State) (party : ℕ) (client : Client) (asked : Kind) (at : Place) → ((answered r s party client asked at).0 ≡ reply.NotHeld) ↔ ((is_about_own_seat asked ≡ true) × (at ≡ Away))
-not_held r s party client kind.Checkin Away = (λ e. (refl, refl), λ c. refl)
-not_held r s party client kind.Quit Away = (λ e. (refl, refl), λ c. refl)
-not_held r s party client kind.Beat Away = (λ e. (refl, refl), λ c. refl)
-not_held r s party client kind.Look Away = (λ e. (refl, refl), λ c. refl)
-not_held r s party client kind.Checkin (Told h) = (λ e. absurd (left_never r s h reply.NotHeld not_held_leaving e), λ c. cc)
-not_held r s party client kind.Quit (Told h) = (λ e. absurd (left_never r s h reply.NotHeld not_held_leaving e), λ c. cc)
-not_held r s party client kind.Checkout (Waiting q) = (λ e. absurd (waits_never s q (decide r s q.client) reply.NotHeld not_held_waiting e), λ c. cc)
-not_held r s party client kind.Queue (Waiting q) = (λ e. absurd (waits_never s q (decide r s q.client) reply.NotHeld not_held_waiting e), λ c. cc)
-not_held r s party client kind.Beat (Waiting q) = (λ e. absurd (waits_never s q (decide r s q.client) reply.NotHeld not_held_waiting e), λ c. cc)
-not_held r s party client kind.Look (Waiting q) = (λ e. absurd (waits_never s q (decide r s q.client) reply.NotHeld not_held_waiting e), λ c. cc)
-not_held r s party client kind.Checkout Away = (λ e. absurd (taken_never r s party client false (decide r s client) reply.NotHeld not_held_asking e), λ c. cc)
-not_held r s party client kind.Queue Away = (λ e. absurd (taken_never r s party client true (decide r s client) reply.NotHeld not_held_asking e), λ c. cc)
-not_held r s party client kind.Count (Told h) = (λ e. cc, λ c. cc)
-not_held r s party client (kind.Reread n) (Told h) = (λ e. cc, λ c. cc)
-not_held r s party client asked at = (λ e. cc, λ c. cc)
+    (λ e. when_reply sets s request moment reply.Unqueued e, λ c. step_replied sets s request moment reply.Unqueued (giving_place (rules_found sets s moment) (found sets s moment) request.party request.client (place (found sets s moment) request.party) (task request.kind) c.0 c.1))
 
 pub nothing_held : (sets : List Rules) (s : State) (request : Request) (moment : ℕ) → (reply_to sets s request moment ≡ reply.NotHeld) ↔ ((is_about_own_seat request.kind ≡ true) × (place (found sets s moment) request.party ≡ Away))
 nothing_held sets s request moment =
-    of_table sets s request moment reply.NotHeld _ (not_held (rules_found sets s moment) (found sets s moment) request.party request.client request.kind (place (found sets s moment) request.party))
-
--- Lingering
-
-lingering_waiting : (until : ℕ) → IsNotOfWaiting (reply.Lingering until)
-lingering_waiting until = (λ line e. cc, λ n e. cc)
-
-lingering_asking : (until : ℕ) → IsNotOfAsking (reply.Lingering until)
-lingering_asking until = record { denied = λ line e. cc; retaken = λ charge e. cc; granted = λ charge e. cc; queued = λ n e. cc; full = λ a b e. cc }
-
-lingers_step : (r : Rules) (s : State) (h : Holder) (until : ℕ) (b : Bool) → lingers r s ≡ b → ((left r s h).0 ≡ reply.Lingering until) ↔ ((lingers r s ≡ true) × (until ≡ s.now + r.linger))
-lingers_step r s h until true e =
-    (λ f. let same : reply.Lingering (s.now + r.linger) ≡ reply.Lingering until = sym (left_reply r s h true e) ∙ f in (e, cc), λ c. left_reply r s h true e ∙ ap reply.Lingering (sym c.1))
-lingers_step r s h until false e =
-    (λ f. let never : reply.Returned ≡ reply.Lingering until = sym (left_reply r s h false e) ∙ f in absurd (cc), λ c. let never : false ≡ true = sym e ∙ c.0 in cc)
-
-lingering_of : (r : Rules) (s : State) (party : ℕ) (client : Client) (asked : Kind) (at : Place) (until : ℕ)
-    → ((answered r s party client asked at).0 ≡ reply.Lingering until) ↔ ((gives_back asked ≡ true) × (is_told at ≡ true) × (lingers r s ≡ true) × (until ≡ s.now + r.linger))
-lingering_of r s party client kind.Checkin (Told h) until =
-    let own : ((left r s h).0 ≡ reply.Lingering until) ↔ ((lingers r s ≡ true) × (until ≡ s.now + r.linger)) = lingers_step r s h until (lingers r s) refl in
-    (λ e. (refl, refl, (own.0 e).0, (own.0 e).1), λ c. own.1 (c.2, c.3))
-lingering_of r s party client kind.Quit (Told h) until =
-    let own : ((left r s h).0 ≡ reply.Lingering until) ↔ ((lingers r s ≡ true) × (until ≡ s.now + r.linger)) = lingers_step r s h until (lingers r s) refl in
-    (λ e. (refl, refl, (own.0 e).0, (own.0 e).1), λ c. own.1 (c.2, c.3))
-lingering_of r s party client kind.Checkout (Waiting q) until = (λ e. absurd (waits_never s q (decide r s q.client) (reply.Lingering until) (lingering_waiting until) e), λ c. cc)
-lingering_of r s party client kind.Queue (Waiting q) until = (λ e. absurd (waits_never s q (decide r s q.client) (reply.Lingering until) (lingering_waiting until) e), λ c. cc)
-lingering_of r s party client kind.Beat (Waiting q) until = (λ e. absurd (waits_never s q (decide r s q.client) (reply.Lingering until) (lingering_waiting until) e), λ c. cc)
-lingering_of r s party client kind.Look (Waiting q) until = (λ e. absurd (waits_never s q (decide r s q.client) (reply.Lingering until) (lingering_waiting until) e), λ c. cc)
-lingering_of r s party client kind.Checkout Away until = (λ e. absurd (taken_never r s party client false (decide r s client) (reply.Lingering until) (lingering_asking until) e), λ c. cc)
-lingering_of r s party client kind.Queue Away until = (λ e. absurd (taken_never r s party client true (decide r s client) (reply.Lingering until) (lingering_asking until) e), λ c. cc)
-lingering_of r s party client kind.Count (Told h) until = (λ e. cc, λ c. cc)
-lingering_of r s party client (kind.Reread n) (Told h) until = (λ e. cc, λ c. cc)
-lingering_of r s party client asked at until = (λ e. cc, λ c. cc)
+    let r : Rules = rules_found sets s moment in
+    let t : State = found sets s moment in
+    (λ e. when_reply sets s request moment reply.NotHeld e, λ c. step_replied sets s request moment reply.NotHeld (at_place r t request.party request.client (task request.kind) Away reply.NotHeld c.1 (own_away r t request.party request.client (task request.kind) c.0)))
 
 pub seats_linger : (sets : List Rules) (s : State) (request : Request) (moment until : ℕ)
     → (reply_to sets s request moment ≡ reply.Lingering until) ↔ IsLeft (rules_found sets s moment) (found sets s moment) request until
-seats_linger sets s request moment until =
-    let own : _ ↔ _ = lingering_of (rules_found sets s moment) (found sets s moment) request.party request.client request.kind (place (found sets s moment) request.party) until in
-    of_table sets s request moment (reply.Lingering until) _
-    (λ e. let c : _ = own.0 e in record { leaves = c.0; told = c.1; stays = c.2; end = c.3 }, λ c. own.1 (c.leaves, c.told, c.stays, c.end))
-
--- Returned
-
-returned_waiting : IsNotOfWaiting reply.Returned
-returned_waiting = (λ line e. cc, λ n e. cc)
-
-returned_asking : IsNotOfAsking reply.Returned
-returned_asking = record { denied = λ line e. cc; retaken = λ charge e. cc; granted = λ charge e. cc; queued = λ n e. cc; full = λ a b e. cc }
-
-returns_step : (r : Rules) (s : State) (h : Holder) (b : Bool) → lingers r s ≡ b → ((left r s h).0 ≡ reply.Returned) ↔ (not (lingers r s) ≡ true)
-returns_step r s h true e =
-    (λ f. let never : reply.Lingering (s.now + r.linger) ≡ reply.Returned = sym (left_reply r s h true e) ∙ f in cc, λ c. let never : false ≡ true = ap not (sym e) ∙ c in cc)
-returns_step r s h false e = (λ f. ap not e, λ c. left_reply r s h false e)
-
-returned_of : (r : Rules) (s : State) (party : ℕ) (client : Client) (asked : Kind) (at : Place) → ((answered r s party client asked at).0 ≡ reply.Returned) ↔ ((gives_back asked ≡ true) × (goes_at_once r s at ≡ true))
-returned_of r s party client kind.Checkin (Told h) = let own : ((left r s h).0 ≡ reply.Returned) ↔ (not (lingers r s) ≡ true) = returns_step r s h (lingers r s) refl in (λ e. (refl, own.0 e), λ c. own.1 c.1)
-returned_of r s party client kind.Checkin (Untold h) = (λ e. (refl, refl), λ c. refl)
-returned_of r s party client kind.Quit (Told h) = let own : ((left r s h).0 ≡ reply.Returned) ↔ (not (lingers r s) ≡ true) = returns_step r s h (lingers r s) refl in (λ e. (refl, own.0 e), λ c. own.1 c.1)
-returned_of r s party client kind.Quit (Untold h) = (λ e. (refl, refl), λ c. refl)
-returned_of r s party client kind.Checkout (Waiting q) = (λ e. absurd (waits_never s q (decide r s q.client) reply.Returned returned_waiting e), λ c. cc)
-returned_of r s party client kind.Queue (Waiting q) = (λ e. absurd (waits_never s q (decide r s q.client) reply.Returned returned_waiting e), λ c. cc)
-returned_of r s party client kind.Beat (Waiting q) = (λ e. absurd (waits_never s q (decide r s q.client) reply.Returned returned_waiting e), λ c. cc)
-returned_of r s party client kind.Look (Waiting q) = (λ e. absurd (waits_never s q (decide r s q.client) reply.Returned returned_waiting e), λ c. cc)
-returned_of r s party client kind.Checkout Away = (λ e. absurd (taken_never r s party client false (decide r s client) reply.Returned returned_asking e), λ c. cc)
-returned_of r s party client kind.Queue Away = (λ e. absurd (taken_never r s party client true (decide r s client) reply.Returned returned_asking e), λ c. cc)
-returned_of r s party client kind.Count (Told h) = (λ e. cc, λ c. cc)
-returned_of r s party client (kind.Reread n) (Told h) = (λ e. cc, λ c. cc)
-returned_of r s party client asked at = (λ e. cc, λ c. cc)
+seats_linger sets s request moment until = (
+  λ e. let c : _ = when_reply sets s request moment (reply.Lingering until) e in record { leaves = c.0; told = c.1; stays = c.2; end = c.3 },
+  λ c. step_replied sets s request moment (reply.Lingering until)
+      (giving_told (rules_found sets s moment) (found sets s moment) request.party request.client (place (found sets s moment) request.party) (task request.kind) c.leaves c.told c.stays ∙ ap reply.Lingering (sym c.end)),
+)
 
 pub seats_returned : (sets : List Rules) (s : State) (request : Request) (moment : ℕ)
     → (reply_to sets s request moment ≡ reply.Returned) ↔ ((gives_back request.kind ≡ true) × (goes_at_once (rules_found sets s moment) (found sets s moment) (place (found sets s moment) request.party) ≡ true))
 seats_returned sets s request moment =
-    of_table sets s request moment reply.Returned _ (returned_of (rules_found sets s moment) (found sets s moment) request.party request.client request.kind (place (found sets s moment) request.party))
+    (λ e. when_reply sets s request moment reply.Returned e, λ c. step_replied sets s request moment reply.Returned (giving_up (rules_found sets s moment) (found sets s moment) request.party request.client (place (found sets s moment) request.party) (task request.kind) c.0 c.1))
+
+-- a denial
+
+denied_of : (r : Rules) (s : State) (request : Request) (line : ℕ) → When r s request.client (task request.kind) (place s request.party) (reply.Denied line) → IsDenied r s request line ⊎ ((q : Queuer) × IsBarredInQueue r s request line q)
+denied_of r s request line (inl c) = inl (record { asks = c.0; away = c.1; denied = c.2 })
+denied_of r s request line (inr (q, a, e, b)) = inr (q, record { asks = a; waits = e; barred = b })
+
+decided_denied : (r : Rules) (s : State) (may_wait : Bool) (d : Decision) (line : ℕ) → line_of_denial d ≡ Some line → (answer_by_decision r s may_wait d).0 ≡ reply.Denied line
+decided_denied r s may_wait (Barred l) line e = let same : Some l ≡ Some line = e in cc
+decided_denied r s may_wait (Capped l) line e = let same : Some l ≡ Some line = e in cc
+decided_denied r s may_wait other line e = let never : None ≡ Some line = e in absurd (cc)
+
+denied_comes : (r : Rules) (s : State) (request : Request) (line : ℕ) → (IsDenied r s request line ⊎ ((q : Queuer) × IsBarredInQueue r s request line q)) → replied r s request.party request.client (place s request.party) (task request.kind) ≡ reply.Denied line
+denied_comes r s request line (inl c) =
+    at_place r s request.party request.client (task request.kind) Away (reply.Denied line) c.away
+    (seat_away r s request.party request.client (task request.kind) (decide r s request.client) (reply.Denied line) c.asks refl (λ may_wait. decided_denied r s may_wait (decide r s request.client) line c.denied))
+denied_comes r s request line (inr (q, c)) =
+    at_place r s request.party request.client (task request.kind) (Waiting q) (reply.Denied line) c.waits
+    (standing_waiting r s request.party request.client q (task request.kind) c.asks ∙ ap (λ (d : Decision). (standing_of s request.party d).0) c.barred)
+
+pub denials_name : (sets : List Rules) (s : State) (request : Request) (moment line : ℕ)
+    → (reply_to sets s request moment ≡ reply.Denied line)
+    ↔ (IsDenied (rules_found sets s moment) (found sets s moment) request line ⊎ ((q : Queuer) × IsBarredInQueue (rules_found sets s moment) (found sets s moment) request line q))
+denials_name sets s request moment line = (
+  λ e. denied_of (rules_found sets s moment) (found sets s moment) request line (when_reply sets s request moment (reply.Denied line) e),
+  λ c. step_replied sets s request moment (reply.Denied line) (denied_comes (rules_found sets s moment) (found sets s moment) request line c),
+)
+
+-- no seat
+
+checkout_of : (k : Kind) → task k ≡ Answer (ask.Seat false) → k ≡ kind.Checkout
+checkout_of kind.Checkout e = refl
+checkout_of other e = absurd (cc)
+
+full_comes : (r : Rules) (s : State) (request : Request) (a b : ℕ) → IsFull r s request a b → replied r s request.party request.client (place s request.party) (task request.kind) ≡ reply.NoSeat a b
+full_comes r s request a b c =
+    ap (λ (k : Kind). replied r s request.party request.client (place s request.party) (task k)) c.asks
+    ∙ at_place r s request.party request.client (Answer (ask.Seat false)) Away (reply.NoSeat a b) c.away (ap (λ (d : Decision). (answer_by_decision r s false d).0) c.none ∙ cc)
+
+-- where the rules find no seat, none is left that no RESERVE line keeps
+
+open_full : (a b : ℕ) (c : Bool) → ltb a b ≡ c → cond c (Grant Open) Full ≡ Full → b ≤ a
+open_full a b true e f = let never : Grant Open ≡ Full = f in absurd (cc)
+open_full a b false e f = ltb-false a b e
+
+none_left : (r : Rules) (s : State) (client : Client) → decide r s client ≡ Full → r.free ≤ charges s Open
+none_left r s client e =
+    let last : Decision = cond (ltb (charges s Open) r.free) (Grant Open) Full in
+    let fifth : Decision = unless (reserved r s client) (λ line. Grant (Reserve line)) last in
+    let fourth : Decision = unless (reached r s client) Capped fifth in
+    let third : Decision = unless (retaken s client) Retake fourth in
+    open_full (charges s Open) r.free (ltb (charges s Open) r.free) refl
+    (unless_else (reserved r s client) (λ line. Grant (Reserve line)) last Full (λ line f. cc)
+    (unless_else (reached r s client) Capped fifth Full (λ line f. cc)
+    (unless_else (retaken s client) Retake fourth Full (λ charge f. cc)
+    (unless_else (not_included r client) Barred third Full (λ line f. cc)
+    (unless_else (excluded r client) Barred (unless (not_included r client) Barred third) Full (λ line f. cc) e)))))
+
+full_of : (r : Rules) (s : State) (request : Request) (a b : ℕ) → When r s request.client (task request.kind) (place s request.party) (reply.NoSeat a b) → IsFull r s request a b
+full_of r s request a b c = record { asks = checkout_of request.kind c.0; away = c.1; none = c.2; charged = c.3; unreserved = c.4 }
+
+full_least : (r : Rules) (s : State) (request : Request) (a b : ℕ) → IsFull r s request a b → b ≤ a
+full_least r s request a b c = omega (arith, none_left r s request.client c.none, c.charged, c.unreserved)
+
+pub no_seat_left : (sets : List Rules) (s : State) (request : Request) (moment taken free : ℕ)
+    → ((reply_to sets s request moment ≡ reply.NoSeat taken free) ↔ IsFull (rules_found sets s moment) (found sets s moment) request taken free)
+    × (reply_to sets s request moment ≡ reply.NoSeat taken free → free ≤ taken)
+no_seat_left sets s request moment taken free =
+    let r : Rules = rules_found sets s moment in
+    let t : State = found sets s moment in
+    let is : reply_to sets s request moment ≡ reply.NoSeat taken free → IsFull r t request taken free = λ e. full_of r t request taken free (when_reply sets s request moment (reply.NoSeat taken free) e) in
+    ((is, λ c. step_replied sets s request moment (reply.NoSeat taken free) (full_comes r t request taken free c)), λ e. full_least r t request taken free (is e))
+
+-- a seat is granted
+
+granted_of : (r : Rules) (s : State) (request : Request) (charge : Charge) → When r s request.client (task request.kind) (place s request.party) (reply.Granted charge) → IsGranted r s request charge ⊎ ((h : Holder) × IsToldLate s request charge h)
+granted_of r s request charge (inl c) = inl (record { asks = c.0; away = c.1; granted = c.2 })
+granted_of r s request charge (inr (h, a, e, b)) = inr (h, record { asks = a; untold = e; charged = b })
+
+granted_comes : (r : Rules) (s : State) (request : Request) (charge : Charge) → (IsGranted r s request charge ⊎ ((h : Holder) × IsToldLate s request charge h)) → replied r s request.party request.client (place s request.party) (task request.kind) ≡ reply.Granted charge
+granted_comes r s request charge (inl c) =
+    at_place r s request.party request.client (task request.kind) Away (reply.Granted charge) c.away
+    (seat_away r s request.party request.client (task request.kind) (Grant charge) (reply.Granted charge) c.asks c.granted (λ may_wait. refl))
+granted_comes r s request charge (inr (h, c)) =
+    at_place r s request.party request.client (task request.kind) (Untold h) (reply.Granted charge) c.untold
+    (standing_untold r s request.party request.client h (task request.kind) c.asks ∙ ap reply.Granted c.charged)
+
+pub seats_granted : (sets : List Rules) (s : State) (request : Request) (moment : ℕ) (charge : Charge)
+    → (reply_to sets s request moment ≡ reply.Granted charge)
+    ↔ (IsGranted (rules_found sets s moment) (found sets s moment) request charge ⊎ ((h : Holder) × IsToldLate (found sets s moment) request charge h))
+seats_granted sets s request moment charge = (
+  λ e. granted_of (rules_found sets s moment) (found sets s moment) request charge (when_reply sets s request moment (reply.Granted charge) e),
+  λ c. step_replied sets s request moment (reply.Granted charge) (granted_comes (rules_found sets s moment) (found sets s moment) request charge c),
+)
+
+-- a seat is taken again
+
+pub seats_retaken : (sets : List Rules) (s : State) (request : Request) (moment : ℕ) (charge : Charge)
+    → (reply_to sets s request moment ≡ reply.Retaken charge) ↔ IsRetaken (rules_found sets s moment) (found sets s moment) request charge
+seats_retaken sets s request moment charge =
+    let r : Rules = rules_found sets s moment in
+    let t : State = found sets s moment in (
+      λ e. let c : _ = when_reply sets s request moment (reply.Retaken charge) e in record { asks = c.0; away = c.1; retaken = c.2 },
+      λ c. step_replied sets s request moment (reply.Retaken charge)
+          (at_place r t request.party request.client (task request.kind) Away (reply.Retaken charge) c.away
+          (seat_away r t request.party request.client (task request.kind) (Retake charge) (reply.Retaken charge) c.asks c.retaken (λ may_wait. refl))),
+    )
+
+-- what a grant and a refusal say of MAX and RESERVE lines
+
+none_capped : (o : Option ℕ) (others : Decision) (charge : Charge) → unless o Capped others ≡ Grant charge → is_some o ≡ false
+none_capped None others charge e = refl
+none_capped (Some line) others charge e = absurd (cc)
+
+none_granted : (o : Option ℕ) (others : Decision) → unless o (λ line. Grant (Reserve line)) others ≡ Full → is_some o ≡ false
+none_granted None others e = refl
+none_granted (Some line) others e = absurd (cc)
+
+reached_before : (r : Rules) (s : State) (client : Client) (charge : Charge) → decide r s client ≡ Grant charge → is_some (reached r s client) ≡ false
+reached_before r s client charge e =
+    let last : Decision = cond (ltb (charges s Open) r.free) (Grant Open) Full in
+    let third : Decision = unless (reserved r s client) (λ line. Grant (Reserve line)) last in
+    let fourth : Decision = unless (reached r s client) Capped third in
+    let fifth : Decision = unless (retaken s client) Retake fourth in
+    none_capped (reached r s client) third charge
+    (unless_else (retaken s client) Retake fourth (Grant charge) (λ c f. cc)
+    (unless_else (not_included r client) Barred fifth (Grant charge) (λ line f. cc)
+    (unless_else (excluded r client) Barred (unless (not_included r client) Barred fifth) (Grant charge) (λ line f. cc) e)))
+
+pub max_counts : (r : Rules) (s : State) (client : Client) (charge : Charge) → list_any (is_reached r s client) r.maxes ≡ true → decide r s client ≡ Grant charge → ⊥
+max_counts r s client charge h e =
+    let some : is_some (reached r s client) ≡ true = some_found number_of_limit (is_reached r s client) r.maxes ∙ h in
+    let never : true ≡ false = sym some ∙ reached_before r s client charge e in
+    cc
+
+used_up : (a b : Bool) → (a && b) ≡ false → (b ≡ false) ⊎ (a ≡ false)
+used_up true b e = inl e
+used_up false b e = inr refl
+
+in_use_or : (r : Rules) (s : State) (client : Client) → (list_any (has_room r s client) r.reserves ≡ false) ⊎ (ltb (in_use s) r.count ≡ false) → (list_any (has_room r s client) r.reserves ≡ false) ⊎ (r.count ≤ in_use s)
+in_use_or r s client (inl e) = inl e
+in_use_or r s client (inr e) = inr (ltb-false (in_use s) r.count e)
+
+reserved_before : (r : Rules) (s : State) (client : Client) → decide r s client ≡ Full → is_some (reserved r s client) ≡ false
+reserved_before r s client e =
+    let last : Decision = cond (ltb (charges s Open) r.free) (Grant Open) Full in
+    let fifth : Decision = unless (reserved r s client) (λ line. Grant (Reserve line)) last in
+    let fourth : Decision = unless (reached r s client) Capped fifth in
+    let third : Decision = unless (retaken s client) Retake fourth in
+    none_granted (reserved r s client) last
+    (unless_else (reached r s client) Capped fifth Full (λ line f. cc)
+    (unless_else (retaken s client) Retake fourth Full (λ charge f. cc)
+    (unless_else (not_included r client) Barred third Full (λ line f. cc)
+    (unless_else (excluded r client) Barred (unless (not_included r client) Barred third) Full (λ line f. cc) e))))
+
+pub reserves_used_up : (sets : List Rules) (s : State) (request : Request) (moment taken free : ℕ) → reply_to sets s request moment ≡ reply.NoSeat taken free
+    → (list_any (has_room (rules_found sets s moment) (found sets s moment) request.client) (rules_found sets s moment).reserves ≡ false) ⊎ ((rules_found sets s moment).count ≤ in_use (found sets s moment))
+reserves_used_up sets s request moment taken free e =
+    let r : Rules = rules_found sets s moment in
+    let t : State = found sets s moment in
+    let full : IsFull r t request taken free = full_of r t request taken free (when_reply sets s request moment (reply.NoSeat taken free) e) in
+    in_use_or r t request.client (used_up (ltb (in_use t) r.count) (list_any (has_room r t request.client) r.reserves)
+    (sym (reserved_some r t request.client (ltb (in_use t) r.count) refl) ∙ reserved_before r t request.client full.none))
+
+-- another rule set
+
+set_asked_of : (r : Rules) (s : State) (party : ℕ) (client : Client) (at : Place) (t : Task) (n : ℕ) → set_of t ≡ Some n → replied r s party client at t ≡ reply.Reread n
+set_asked_of r s party client at (Answer asked) n e = let never : None ≡ Some n = e in absurd (cc)
+set_asked_of r s party client at (Reread m) n e = let same : Some m ≡ Some n = e in let inside : m ≡ n = cc in ap (λ (k : ℕ). reply.Reread k) inside
+
+pub sets_reread : (sets : List Rules) (s : State) (request : Request) (moment set : ℕ) → (reply_to sets s request moment ≡ reply.Reread set) ↔ (set_asked request.kind ≡ Some set)
+sets_reread sets s request moment set = (
+  λ e. ap set_of (when_reply sets s request moment (reply.Reread set) e),
+  λ c. step_replied sets s request moment (reply.Reread set) (set_asked_of (rules_found sets s moment) (found sets s moment) request.party request.client (place (found sets s moment) request.party) (task request.kind) set c),
+)
+
+-- no reply is of holding and of queueing at once
+
+told_not_pending : (at : Place) → is_told at ≡ true → is_pending at ≡ false
+told_not_pending (Told h) e = refl
+told_not_pending other e = let never : false ≡ true = e in absurd (cc)
+
+one_of_both : (r : Rules) (s : State) (client : Client) (t : Task) (at : Place) (x : Reply) → When r s client t at x → is_of_holding x ≡ true → is_of_queueing x ≡ false
+one_of_both r s client t at (reply.Counts held lingering taken free own queued) w e = w.1 ∙ told_not_pending at (sym w.0 ∙ e)
+one_of_both r s client t at (reply.Queued position) w e = let never : false ≡ true = e in absurd (cc)
+one_of_both r s client t at other w e = refl
+
+pub own_not_queued : (sets : List Rules) (s : State) (request : Request) (moment : ℕ) → is_of_holding (reply_to sets s request moment) ≡ true → is_of_queueing (reply_to sets s request moment) ≡ false
+own_not_queued sets s request moment =
+    one_of_both (rules_found sets s moment) (found sets s moment) request.client (task request.kind) (place (found sets s moment) request.party) (reply_to sets s request moment) (when_reply sets s request moment (reply_to sets s request moment) refl)

@@ -1,151 +1,184 @@
-use Rattle.std.proofs.Common.{◌≡◌, ℕ, ◌+◌, Bool, true, false, List, [], ◌∷◌, ◌++◌, refl, ap, sym, ◌∙◌, arith, subst, Option, None, Some}
+use Rattle.std.proofs.Common.{◌≡◌, ℕ, ◌+◌, ◌≤◌, Bool, true, false, List, [], ◌∷◌, ◌++◌, refl, ap, sym, ◌∙◌, arith, ltb, None, Some, map}
+use Rattle.std.specs.List.{count_by, find}
+use Rattle.std.proofs.lemmas.Bool.{eq-eqb}
+use Rattle.std.proofs.lemmas.List.Folds.{find-append}
 use Rattle.lic_types.specs.declared.client.Client.{Client}
 use Rattle.options_machine.specs.declared.decision.Decision.{Decision}
-use Rattle.options_machine.specs.declared.decision.Decision.TheVariants.{Barred, Retake, Capped, Grant, Full}
+use Rattle.options_machine.specs.declared.decision.Decision.TheVariants.{Barred, Full}
 use Rattle.options_machine.specs.declared.decision.Place.{Place}
 use Rattle.options_machine.specs.declared.decision.Place.TheVariants.{Told, Untold, Waiting, Away}
-use Rattle.options_machine.specs.declared.reply.Charge.{Charge}
-use Rattle.options_machine.specs.declared.reply.Kind.{Kind}
-use Rattle.options_machine.specs.declared.reply.Kind.TheVariants as kind
+use Rattle.options_machine.specs.declared.effect.Effect.{Effect}
+use Rattle.options_machine.specs.declared.effect.Effect.TheVariants.{Nothing, Tell, Release, Linger, Unqueue, Seat, Reseat, Join}
+use Rattle.options_machine.specs.declared.reply.Ask.{Ask}
+use Rattle.options_machine.specs.declared.reply.Ask.TheVariants as ask
+use Rattle.options_machine.specs.declared.reply.Entry.{Entry}
 use Rattle.options_machine.specs.declared.reply.Reply.{Reply}
-use Rattle.options_machine.specs.declared.reply.Reply.TheVariants as reply
 use Rattle.options_machine.specs.declared.reply.Request.{Request}
+use Rattle.options_machine.specs.declared.reply.Task.{Task}
+use Rattle.options_machine.specs.declared.reply.Task.TheVariants.{Answer, Reread}
 use Rattle.options_machine.specs.declared.rows.Holder.{Holder}
 use Rattle.options_machine.specs.declared.rows.Queuer.{Queuer}
-use Rattle.options_machine.specs.declared.reply.Entry.{Entry}
-use Rattle.std.specs.List.{find}
-use Rattle.std.proofs.lemmas.Bool.{eq-eqb}
 use Rattle.options_machine.specs.Rules.{Rules}
-use Rattle.options_machine.specs.State.{State, entries, in_force, is_holder, is_queuer, opening, place, place_of}
+use Rattle.options_machine.specs.State.{State, entries, in_force, is_holder, is_queuer, opening, place}
 use Rattle.options_machine.specs.Decide.{decide}
-use Rattle.options_machine.specs.Settle.{joined, seated}
-use Rattle.options_machine.specs.Step.{answered, full, left, released, served, set_asked, step, taken, to_away, to_told, to_untold, to_waiting, told, told_if, unqueued, waits}
+use Rattle.options_machine.specs.Settle.{with_holder}
+use Rattle.options_machine.specs.Apply.{Fits, IsPlace, apply, told_if, with_told, without_holder, without_queuer}
+use Rattle.options_machine.specs.Step.{answer_by_decision, answer_of, answer_of_return, entry_left, lingers, set_asked, set_of, standing_of, step, step_of_task, task, to_away, to_told, to_untold, to_waiting}
 use Rattle.options_machine.specs.Run.{IsRun, after}
 use Rattle.options_machine.specs.Law.{AreSets}
 use Rattle.options_machine.specs.Own.{is_of_holding, is_of_queueing}
-use Rattle.options_machine.specs.Kept.{IsKept}
-use Rattle.options_machine.specs.Replies.{found, is_pending, is_told, lingers, reply_to}
-use Rattle.options_machine.proofs.OwnSteps.{find_with, found_told, of_queuer, released_none, unqueued_none}
-use Rattle.options_machine.proofs.Positions.{found_last, none_of_count}
+use Rattle.options_machine.specs.Replies.{found, is_pending, is_told, reply_to}
+use Rattle.options_machine.proofs.Counts.{count-cons, count_none, find_passes, none_left}
+use Rattle.options_machine.proofs.Owns.{found_one}
 use Rattle.options_machine.proofs.Runs.{kept_run, opening_kept}
-use Rattle.options_machine.proofs.Steps.{IsKeptBy, IsPlace, kept_settled, of_party, place_is}
+use Rattle.options_machine.proofs.Steps.{IsKeptBy, effect_at, fits_at, kept_settled, place_is, told_party}
 
--- what the party has in a state
+find_map_step : {X : Type 0} (t : X → Bool) (f : X → X) (x : X) (xs : List X) (y : X) (b : Bool) → t x ≡ b → t (f x) ≡ t x → find t (x ∷ xs) ≡ Some y → (find t xs ≡ Some y → find t (map f xs) ≡ Some (f y)) → find t (map f (x ∷ xs)) ≡ Some (f y)
+find_map_step t f x xs y true b same e g =
+    let found : Some x ≡ Some y = rw b at e in
+    let one : x ≡ y = cc in
+    rw (same, b) (ap (λ (z : _). Some (f z)) one)
+find_map_step t f x xs y false b same e g = rw (same, b) (g (rw b at e))
 
-nothing : (s : State) (party : ℕ) → entries s party ≡ 0 → place s party ≡ Away
-nothing s party e =
-    let seat : find (is_holder party) s.holders ≡ None = none_of_count (is_holder party) s.holders (omega (arith, e)) in
-    let wait : find (is_queuer party) s.queue ≡ None = none_of_count (is_queuer party) s.queue (omega (arith, e)) in
-    rw (seat, wait) refl
+find_map : {X : Type 0} (t : X → Bool) (f : X → X) (xs : List X) (y : X) → ((x : X) → t (f x) ≡ t x) → find t xs ≡ Some y → find t (map f xs) ≡ Some (f y)
+find_map t f [] y same e = let never : None ≡ Some y = e in cc
+find_map t f (x ∷ xs) y same e = find_map_step t f x xs y (t x) refl (same x) e (find_map t f xs y same)
 
-tells_now : (s : State) (h : Holder) → find (is_holder h.party) s.holders ≡ Some h → place (told s h.party) h.party ≡ Told (told_if true s.now h)
-tells_now s h e = ap (λ (o : Option Holder). place_of o (find (is_queuer h.party) s.queue)) (found_told s h e)
+with_step : (t : Holder → Bool) (h g : Holder) (gs : List Holder) (b c : Bool) → ltb h.party g.party ≡ b → t g ≡ c → t h ≡ true → find t (g ∷ gs) ≡ None → (find t gs ≡ None → find t (with_holder h gs) ≡ Some h) → find t (with_holder h (g ∷ gs)) ≡ Some h
+with_step t h g gs true c e k one none f = rw (e, one) refl
+with_step t h g gs false true e k one none f = let never : Some g ≡ None = rw k at none in cc
+with_step t h g gs false false e k one none f = rw (e, k) (f (rw k at none))
 
-seats_now : (s : State) (party : ℕ) (client : Client) (charge : Charge) → find (is_holder party) s.holders ≡ None
-    → place (seated s party client charge true) party ≡ Told (record { party = party; client = client; charge = charge; beat = s.now; told = true })
-seats_now s party client charge e =
-    let h : Holder = record { party = party; client = client; charge = charge; beat = s.now; told = true } in
-    ap (λ (o : Option Holder). place_of o (find (is_queuer party) s.queue)) (find_with (is_holder party) h s.holders (eq-eqb party party refl) e)
+pub find_with : (t : Holder → Bool) (h : Holder) (hs : List Holder) → t h ≡ true → find t hs ≡ None → find t (with_holder h hs) ≡ Some h
+find_with t h [] one none = rw one refl
+find_with t h (g ∷ gs) one none = with_step t h g gs (ltb h.party g.party) (t g) refl refl one none (find_with t h gs one)
 
-waits_now : (s : State) (party : ℕ) (client : Client) → find (is_holder party) s.holders ≡ None → find (is_queuer party) s.queue ≡ None
-    → place (joined s (record { party = party; client = client })) party ≡ Waiting (record { party = party; client = client })
-waits_now s party client e f =
-    let q : Queuer = record { party = party; client = client } in
-    let last : find (is_queuer party) (s.queue ++ q ∷ []) ≡ Some q = found_last (is_queuer party) s.queue q (eq-eqb party party refl) f in
-    rw (e, last) refl
+none_of_count_step : {X : Type 0} (p : X → Bool) (x : X) (xs : List X) (b : Bool) → p x ≡ b → count_by p (x ∷ xs) ≡ 0 → (count_by p xs ≡ 0 → find p xs ≡ None) → find p (x ∷ xs) ≡ None
+none_of_count_step p x xs true e f rest = let one : count_by p (x ∷ xs) ≡ 1 + count_by p xs = count-cons p x xs ∙ rw e refl in absurd (omega (arith, f, one))
+none_of_count_step p x xs false e f rest = let same : count_by p (x ∷ xs) ≡ 0 + count_by p xs = count-cons p x xs ∙ rw e refl in rw e (rest (omega (arith, f, same)))
 
--- a reply says what the party has
-abbrev Says : Reply × State → ℕ → Type 0
-Says a party = (is_of_holding a.0 ≡ is_told (place a.1 party)) × (is_of_queueing a.0 ≡ is_pending (place a.1 party))
+pub none_of_count : {X : Type 0} (p : X → Bool) (xs : List X) → count_by p xs ≡ 0 → find p xs ≡ None
+none_of_count p [] e = refl
+none_of_count p (x ∷ xs) e = none_of_count_step p x xs (p x) refl e (none_of_count p xs)
 
-says_at : (a : Reply × State) (party : ℕ) (at : Place) → place a.1 party ≡ at → is_of_holding a.0 ≡ is_told at → is_of_queueing a.0 ≡ is_pending at → Says a party
-says_at a party at e f g = (f ∙ ap is_told (sym e), g ∙ ap is_pending (sym e))
+-- the party is told
+found_told : (s : State) (party : ℕ) (h : Holder) → find (is_holder party) s.holders ≡ Some h → find (is_holder party) (with_told s party).holders ≡ Some (told_if true s.now h)
+found_told s party h e =
+    find_map (is_holder party) (λ (x : Holder). told_if (is_holder party x) s.now x) s.holders h (λ x. told_party (is_holder party x) s.now party x) e
+    ∙ ap (λ (b : Bool). Some (told_if b s.now h)) (find_passes (is_holder party) s.holders h e)
 
-left_says : (r : Rules) (s : State) (h : Holder) (b : Bool) → lingers r s ≡ b → find (is_holder h.party) s.holders ≡ Some h → IsKept r s → Says (left r s h) h.party
-left_says r s h true g e k =
-    let stays : State = record (released s h.party) { lingering = s.lingering ++ (record { client = h.client; charge = h.charge; until = s.now + r.linger }) ∷ [] } in
-    rw g (says_at (reply.Lingering (s.now + r.linger), stays) h.party Away (nothing stays h.party (released_none r s h e k)) refl refl)
-left_says r s h false g e k = rw g (says_at (reply.Returned, released s h.party) h.party Away (nothing (released s h.party) h.party (released_none r s h e k)) refl refl)
+-- a party without entries is away
+away_of : (s : State) (party : ℕ) → entries s party ≡ 0 → IsPlace s party Away
+away_of s party e = (none_of_count (is_holder party) s.holders (omega (arith, e)), none_of_count (is_queuer party) s.queue (omega (arith, e)))
 
-told_says : (r : Rules) (s : State) (h : Holder) (asked : Kind) → place s h.party ≡ Told h → find (is_holder h.party) s.holders ≡ Some h → IsKept r s → set_asked asked ≡ None → Says (to_told r s h asked) h.party
-told_says r s h kind.Checkout p e k n = says_at (to_told r s h kind.Checkout) h.party (Told h) p refl refl
-told_says r s h kind.Queue p e k n = says_at (to_told r s h kind.Queue) h.party (Told h) p refl refl
-told_says r s h kind.Checkin p e k n = left_says r s h (lingers r s) refl e k
-told_says r s h kind.Quit p e k n = left_says r s h (lingers r s) refl e k
-told_says r s h kind.Beat p e k n = says_at (to_told r s h kind.Beat) h.party (Told (told_if true s.now h)) (tells_now s h e) refl refl
-told_says r s h kind.Look p e k n = says_at (to_told r s h kind.Look) h.party (Told h) p refl refl
-told_says r s h kind.Count p e k n = says_at (to_told r s h kind.Count) h.party (Told h) p refl refl
-told_says r s h (kind.Reread m) p e k n = let never : Some m ≡ None = n in absurd (cc)
+-- nothing is left of a holder that goes
+pub released_none : (s : State) (party : ℕ) (h : Holder) → find (is_holder party) s.holders ≡ Some h → entries s party ≤ 1 → entries (without_holder s party) party ≡ 0
+released_none s party h e one = omega (arith, none_left (is_holder party) s.holders, found_one (is_holder party) s.holders h e, one)
 
-untold_says : (r : Rules) (s : State) (h : Holder) (asked : Kind) → place s h.party ≡ Untold h → find (is_holder h.party) s.holders ≡ Some h → IsKept r s → set_asked asked ≡ None → Says (to_untold r s h asked) h.party
-untold_says r s h kind.Checkout p e k n = says_at (to_untold r s h kind.Checkout) h.party (Told (told_if true s.now h)) (tells_now s h e) refl refl
-untold_says r s h kind.Queue p e k n = says_at (to_untold r s h kind.Queue) h.party (Told (told_if true s.now h)) (tells_now s h e) refl refl
-untold_says r s h kind.Look p e k n = says_at (to_untold r s h kind.Look) h.party (Told (told_if true s.now h)) (tells_now s h e) refl refl
-untold_says r s h kind.Beat p e k n = says_at (to_untold r s h kind.Beat) h.party (Told (told_if true s.now h)) (tells_now s h e) refl refl
-untold_says r s h kind.Checkin p e k n = says_at (to_untold r s h kind.Checkin) h.party Away (nothing (released s h.party) h.party (released_none r s h e k)) refl refl
-untold_says r s h kind.Quit p e k n = says_at (to_untold r s h kind.Quit) h.party Away (nothing (released s h.party) h.party (released_none r s h e k)) refl refl
-untold_says r s h kind.Count p e k n = says_at (to_untold r s h kind.Count) h.party (Untold h) p refl refl
-untold_says r s h (kind.Reread m) p e k n = let never : Some m ≡ None = n in absurd (cc)
+unqueued_none : (s : State) (party : ℕ) → find (is_holder party) s.holders ≡ None → entries (without_queuer s party) party ≡ 0
+unqueued_none s party e = omega (arith, count_none (is_holder party) s.holders e, none_left (is_queuer party) s.queue)
 
-goes_now : (s : State) (q : Queuer) → find (is_holder q.party) s.holders ≡ None → place (unqueued s q.party) q.party ≡ Away
-goes_now s q e = nothing (unqueued s q.party) q.party (unqueued_none s q.party e)
+-- what a party has after an effect
 
-waits_says : (s : State) (q : Queuer) (d : Decision) → place s q.party ≡ Waiting q → find (is_holder q.party) s.holders ≡ None → Says (waits s q d) q.party
-waits_says s q (Barred line) p e = says_at (waits s q (Barred line)) q.party Away (goes_now s q e) refl refl
-waits_says s q (Retake charge) p e = says_at (waits s q (Retake charge)) q.party (Waiting q) p refl refl
-waits_says s q (Capped line) p e = says_at (waits s q (Capped line)) q.party (Waiting q) p refl refl
-waits_says s q (Grant charge) p e = says_at (waits s q (Grant charge)) q.party (Waiting q) p refl refl
-waits_says s q Full p e = says_at (waits s q Full) q.party (Waiting q) p refl refl
+abbrev after_telling : ℕ → Place → Place
+after_telling now (Told h) = Told (told_if true now h)
+after_telling now (Untold h) = Told (told_if true now h)
+after_telling now other = other
 
-waiting_says : (r : Rules) (s : State) (q : Queuer) (asked : Kind) → place s q.party ≡ Waiting q → find (is_holder q.party) s.holders ≡ None → set_asked asked ≡ None → Says (to_waiting r s q asked) q.party
-waiting_says r s q kind.Checkout p e n = waits_says s q (decide r s q.client) p e
-waiting_says r s q kind.Queue p e n = waits_says s q (decide r s q.client) p e
-waiting_says r s q kind.Look p e n = waits_says s q (decide r s q.client) p e
-waiting_says r s q kind.Beat p e n = waits_says s q (decide r s q.client) p e
-waiting_says r s q kind.Checkin p e n = says_at (to_waiting r s q kind.Checkin) q.party Away (goes_now s q e) refl refl
-waiting_says r s q kind.Quit p e n = says_at (to_waiting r s q kind.Quit) q.party Away (goes_now s q e) refl refl
-waiting_says r s q kind.Count p e n = says_at (to_waiting r s q kind.Count) q.party (Waiting q) p refl refl
-waiting_says r s q (kind.Reread m) p e n = let never : Some m ≡ None = n in absurd (cc)
+abbrev pub place_after : State → ℕ → Client → Place → Effect → Place
+place_after s party client at Nothing = at
+place_after s party client at Tell = after_telling s.now at
+place_after s party client at (Seat charge) = Told (record { party = party; client = client; charge = charge; beat = s.now; told = true })
+place_after s party client at (Reseat charge) = Told (record { party = party; client = client; charge = charge; beat = s.now; told = true })
+place_after s party client at Join = Waiting (record { party = party; client = client })
+place_after s party client at other = Away
 
-taken_says : (r : Rules) (s : State) (party : ℕ) (client : Client) (may_wait : Bool) (d : Decision) → place s party ≡ Away → find (is_holder party) s.holders ≡ None → find (is_queuer party) s.queue ≡ None → Says (taken r s party client may_wait d) party
-taken_says r s party client may_wait (Barred line) p e f = says_at (taken r s party client may_wait (Barred line)) party Away p refl refl
-taken_says r s party client may_wait (Retake charge) p e f = says_at (taken r s party client may_wait (Retake charge)) party (Told _) (seats_now s party client charge e) refl refl
-taken_says r s party client may_wait (Capped line) p e f = says_at (taken r s party client may_wait (Capped line)) party Away p refl refl
-taken_says r s party client may_wait (Grant charge) p e f = says_at (taken r s party client may_wait (Grant charge)) party (Told _) (seats_now s party client charge e) refl refl
-taken_says r s party client true Full p e f = says_at (full r s party client true) party (Waiting _) (waits_now s party client e f) refl refl
-taken_says r s party client false Full p e f = says_at (full r s party client false) party Away p refl refl
+place_told : (s : State) (party : ℕ) (at : Place) (h : Holder) → IsPlace s party at → find (is_holder party) s.holders ≡ Some h → IsPlace (with_told s party) party (after_telling s.now at)
+place_told s party (Told g) h (e, t) f = (found_told s party g e, refl)
+place_told s party (Untold g) h (e, t) f = (found_told s party g e, refl)
+place_told s party other h (e, t) f = let never : None ≡ Some h = sym e ∙ f in absurd (cc)
 
-away_says : (r : Rules) (s : State) (party : ℕ) (client : Client) (asked : Kind) → place s party ≡ Away → find (is_holder party) s.holders ≡ None → find (is_queuer party) s.queue ≡ None → set_asked asked ≡ None → Says (to_away r s party client asked) party
-away_says r s party client kind.Checkout p e f n = taken_says r s party client false (decide r s client) p e f
-away_says r s party client kind.Queue p e f n = taken_says r s party client true (decide r s client) p e f
-away_says r s party client kind.Checkin p e f n = says_at (to_away r s party client kind.Checkin) party Away p refl refl
-away_says r s party client kind.Quit p e f n = says_at (to_away r s party client kind.Quit) party Away p refl refl
-away_says r s party client kind.Beat p e f n = says_at (to_away r s party client kind.Beat) party Away p refl refl
-away_says r s party client kind.Look p e f n = says_at (to_away r s party client kind.Look) party Away p refl refl
-away_says r s party client kind.Count p e f n = says_at (to_away r s party client kind.Count) party Away p refl refl
-away_says r s party client (kind.Reread m) p e f n = let never : Some m ≡ None = n in absurd (cc)
+place_seated : (s : State) (party : ℕ) (h : Holder) → h.party ≡ party → h.told ≡ true → find (is_holder party) s.holders ≡ None → IsPlace (record s { holders = with_holder h s.holders }) party (Told h)
+place_seated s party h same t e = (find_with (is_holder party) h s.holders (eq-eqb h.party party same) e, t)
 
-answered_says : (r : Rules) (s : State) (party : ℕ) (client : Client) (asked : Kind) (at : Place) → place s party ≡ at → IsPlace s party at → IsKept r s → set_asked asked ≡ None → Says (answered r s party client asked at) party
-answered_says r s party client asked (Told h) p (e, t) k n =
-    let same : h.party ≡ party = of_party party s h e in
-    subst (λ (x : ℕ). Says (to_told r s h asked) x) same (told_says r s h asked (subst (λ (x : ℕ). place s x ≡ Told h) (sym same) p) (subst (λ (x : ℕ). find (is_holder x) s.holders ≡ Some h) (sym same) e) k n)
-answered_says r s party client asked (Untold h) p (e, t) k n =
-    let same : h.party ≡ party = of_party party s h e in
-    subst (λ (x : ℕ). Says (to_untold r s h asked) x) same (untold_says r s h asked (subst (λ (x : ℕ). place s x ≡ Untold h) (sym same) p) (subst (λ (x : ℕ). find (is_holder x) s.holders ≡ Some h) (sym same) e) k n)
-answered_says r s party client asked (Waiting q) p (e, f) k n =
-    let same : q.party ≡ party = of_queuer party s.queue q f in
-    subst (λ (x : ℕ). Says (to_waiting r s q asked) x) same (waiting_says r s q asked (subst (λ (x : ℕ). place s x ≡ Waiting q) (sym same) p) (subst (λ (x : ℕ). find (is_holder x) s.holders ≡ None) (sym same) e) n)
-answered_says r s party client asked Away p (e, f) k n = away_says r s party client asked p e f n
+pub place_joined : (s : State) (party : ℕ) (q : Queuer) → q.party ≡ party → IsPlace s party Away → IsPlace (record s { queue = s.queue ++ q ∷ [] }) party (Waiting q)
+place_joined s party q same (e, f) = let self : is_queuer party q ≡ true = eq-eqb q.party party same in (e, find-append (is_queuer party) s.queue (q ∷ []) ∙ rw (f, self) refl)
 
-served_says : (sets : List Rules) (s : State) (party : ℕ) (client : Client) (asked : Kind) → set_asked asked ≡ None → Says (answered (in_force sets s) s party client asked (place s party)) party → Says (served sets s party client asked) party
-served_says sets s party client kind.Checkout n f = f
-served_says sets s party client kind.Queue n f = f
-served_says sets s party client kind.Checkin n f = f
-served_says sets s party client kind.Quit n f = f
-served_says sets s party client kind.Beat n f = f
-served_says sets s party client kind.Look n f = f
-served_says sets s party client kind.Count n f = f
-served_says sets s party client (kind.Reread m) n f = let never : Some m ≡ None = n in absurd (cc)
+pub place_applied : (r : Rules) (s : State) (party : ℕ) (client : Client) (at : Place) (x : Effect) → IsPlace s party at → entries s party ≤ 1 → Fits r s party client x → IsPlace (apply s party client x) party (place_after s party client at x)
+place_applied r s party client at Nothing p one f = p
+place_applied r s party client at Tell p one (h, e) = place_told s party at h p e
+place_applied r s party client at Release p one (h, e) = away_of (without_holder s party) party (released_none s party h e one)
+place_applied r s party client at (Linger l) p one (h, e, who, same, room) = away_of (without_holder s party) party (released_none s party h e one)
+place_applied r s party client at Unqueue p one (e, f) = away_of (without_queuer s party) party (unqueued_none s party e)
+place_applied r s party client at (Seat charge) p one ((e, f), d) = place_seated s party _ refl refl e
+place_applied r s party client at (Reseat charge) p one ((e, f), d) = place_seated s party _ refl refl e
+place_applied r s party client at Join p one (none, d) = place_joined s party _ refl none
+
+-- a reply says what the party has after it
+abbrev SaysAfter : State → ℕ → Client → Place → Reply × Effect → Type 0
+SaysAfter s party client at a = (is_of_holding a.0 ≡ is_told (place_after s party client at a.1)) × (is_of_queueing a.0 ≡ is_pending (place_after s party client at a.1))
+
+says_given_back : (r : Rules) (s : State) (party : ℕ) (client : Client) (h : Holder) (at : Place) (b : Bool) → lingers r s ≡ b → SaysAfter s party client at (answer_of_return (entry_left r s h))
+says_given_back r s party client h at true e = rw e (refl, refl)
+says_given_back r s party client h at false e = rw e (refl, refl)
+
+says_told : (r : Rules) (s : State) (party : ℕ) (client : Client) (h : Holder) (asked : Ask) → SaysAfter s party client (Told h) (to_told r s h asked)
+says_told r s party client h ask.GiveBack = says_given_back r s party client h (Told h) (lingers r s) refl
+says_told r s party client h other = (refl, refl)
+
+says_untold : (r : Rules) (s : State) (party : ℕ) (client : Client) (h : Holder) (asked : Ask) → SaysAfter s party client (Untold h) (to_untold r s h asked)
+says_untold r s party client h ask.GiveBack = (refl, refl)
+says_untold r s party client h other = (refl, refl)
+
+says_standing : (s : State) (party : ℕ) (client : Client) (q : Queuer) (d : Decision) → SaysAfter s party client (Waiting q) (standing_of s party d)
+says_standing s party client q (Barred line) = (refl, refl)
+says_standing s party client q other = (refl, refl)
+
+says_waiting : (r : Rules) (s : State) (party : ℕ) (client : Client) (q : Queuer) (asked : Ask) → SaysAfter s party client (Waiting q) (to_waiting r s party q.client asked)
+says_waiting r s party client q ask.GiveBack = (refl, refl)
+says_waiting r s party client q ask.Count = (refl, refl)
+says_waiting r s party client q other = says_standing s party client q (decide r s q.client)
+
+says_decided : (r : Rules) (s : State) (party : ℕ) (client : Client) (may_wait : Bool) (d : Decision) → SaysAfter s party client Away (answer_by_decision r s may_wait d)
+says_decided r s party client true Full = (refl, refl)
+says_decided r s party client false Full = (refl, refl)
+says_decided r s party client may_wait other = (refl, refl)
+
+says_away : (r : Rules) (s : State) (party : ℕ) (client : Client) (asked : Ask) → SaysAfter s party client Away (to_away r s client asked)
+says_away r s party client (ask.Seat may_wait) = says_decided r s party client may_wait (decide r s client)
+says_away r s party client other = (refl, refl)
+
+says_after : (r : Rules) (s : State) (party : ℕ) (client : Client) (asked : Ask) (at : Place) → SaysAfter s party client at (answer_of r s party client asked at)
+says_after r s party client asked (Told h) = says_told r s party client h asked
+says_after r s party client asked (Untold h) = says_untold r s party client h asked
+says_after r s party client asked (Waiting q) = says_waiting r s party client q asked
+says_after r s party client asked Away = says_away r s party client asked
+
+-- a state has one place for a party
+the_place : (s : State) (party : ℕ) (at : Place) → IsPlace s party at → place s party ≡ at
+the_place s party (Told h) (e, t) = rw (e, t) refl
+the_place s party (Untold h) (e, t) = rw (e, t) refl
+the_place s party (Waiting q) (e, f) = rw (e, f) refl
+the_place s party Away (e, f) = rw (e, f) refl
+
+-- the place of an answer's party after it, and that its reply says so
+pub record Says (a : Reply × State) (party : ℕ) : Type 0 where
+  pub at : Place
+  pub is : IsPlace a.1 party at
+  pub holding : is_of_holding a.0 ≡ is_told at
+  pub queueing : is_of_queueing a.0 ≡ is_pending at
+
+pub says_done : (sets : List Rules) (s : State) (party : ℕ) (client : Client) (t : Task) → set_of t ≡ None → entries s party ≤ 1 → Says (step_of_task sets s party client t) party
+says_done sets s party client (Answer asked) n one =
+    let x : Effect = effect_at sets s party client asked in
+    let says : _ × _ = says_after (in_force sets s) s party client asked (place s party) in
+    record {
+      at = place_after s party client (place s party) x;
+      is = place_applied (in_force sets s) s party client (place s party) x (place_is s party) one (fits_at sets s party client asked);
+      holding = says.0;
+      queueing = says.1;
+    }
+says_done sets s party client (Reread m) n one = let never : Some m ≡ None = n in absurd (cc)
 
 pub replies_told : (sets : List Rules) (count : ℕ) (h : List Entry) (request : Request) (moment : ℕ) → AreSets sets count → IsRun sets h → set_asked request.kind ≡ None
     → (is_of_holding (reply_to sets (after sets h) request moment) ≡ is_told (place (step sets (after sets h) request moment).1 request.party))
@@ -153,4 +186,6 @@ pub replies_told : (sets : List Rules) (count : ℕ) (h : List Entry) (request :
 replies_told sets count h request moment g run n =
     let t : State = found sets (after sets h) moment in
     let kept : IsKeptBy sets t = kept_settled sets count (after sets h) moment g (kept_run sets count opening h g run (opening_kept sets count g)) in
-    served_says sets t request.party request.client request.kind n (answered_says (in_force sets t) t request.party request.client request.kind (place t request.party) refl (place_is t request.party) kept.kept n)
+    let says : Says (step sets (after sets h) request moment) request.party = says_done sets t request.party request.client (task request.kind) n (kept.kept.single request.party) in
+    let here : place (step sets (after sets h) request moment).1 request.party ≡ says.at = the_place (step sets (after sets h) request moment).1 request.party says.at says.is in
+    (says.holding ∙ ap is_told (sym here), says.queueing ∙ ap is_pending (sym here))

@@ -17,7 +17,7 @@ use Rattle.lic_types.specs.Groups.{same_name}
 use Rattle.options_machine.specs.Rules.{Rules, applies}
 use Rattle.options_machine.specs.State.{State, charges, in_use}
 use Rattle.options_machine.specs.Decide.{decide, excluded, has_room, is_left_by, is_reached, is_seat, matched, not_included, number_of_limit, reached, reserved, retaken, same_client, unless}
-use Rattle.options_machine.specs.Settle.{joined, offered, reseated, seated, serve, settle, timely, without_first}
+use Rattle.options_machine.specs.Settle.{serve, settle, timely, with_offer, with_queuer, with_seat, with_seat_again, without_first}
 use Rattle.options_machine.specs.Law.{IsServed}
 use Rattle.options_machine.proofs.Counts.{and_left, and_right, any_weaker, count-with_holder, count-without_first, find_passes, some_found}
 use Rattle.options_machine.proofs.Keeps.{LingersFor, charges-seated, charges-reseated, in_use-seated, in_use-reseated, retakes}
@@ -67,7 +67,7 @@ room_less r s new c m u h =
     rw speaks (lt-ltb (charges s (Reserve m.line.line)) m.number (omega (arith, after, u.charges (Reserve m.line.line))))
 
 -- whether a RESERVE line with room is found
-reserved_some : (r : Rules) (s : State) (c : Client) (b : Bool) → ltb (in_use s) r.count ≡ b → is_some (reserved r s c) ≡ (ltb (in_use s) r.count && list_any (has_room r s c) r.reserves)
+pub reserved_some : (r : Rules) (s : State) (c : Client) (b : Bool) → ltb (in_use s) r.count ≡ b → is_some (reserved r s c) ≡ (ltb (in_use s) r.count && list_any (has_room r s c) r.reserves)
 reserved_some r s c true e = rw e (some_found number_of_limit (has_room r s c) r.reserves)
 reserved_some r s c false e = rw e refl
 
@@ -131,12 +131,12 @@ client_eq a b e =
 
 -- a seat leaves a fuller state
 
-seated_fuller : (r : Rules) (s : State) (q : Queuer) (charge : Charge) → IsFuller r s (seated s q.party q.client charge false)
-seated_fuller r s q charge = record {
+pub seated_fuller : (r : Rules) (s : State) (party : ℕ) (client : Client) (charge : Charge) (told : Bool) → IsFuller r s (with_seat s party client charge told)
+seated_fuller r s party client charge told = record {
   lingers = λ c h. h;
-  matched = λ line. omega (arith, count-with_holder (λ (h : Holder). applies r.groups h.client line) (record { party = q.party; client = q.client; charge = charge; beat = s.now; told = false }) s.holders);
-  charges = λ c. omega (arith, charges-seated s q.party q.client charge false c);
-  in_use = omega (arith, in_use-seated s q.party q.client charge false);
+  matched = λ line. omega (arith, count-with_holder (λ (h : Holder). applies r.groups h.client line) (record { party = party; client = client; charge = charge; beat = s.now; told = told }) s.holders);
+  charges = λ c. omega (arith, charges-seated s party client charge told c);
+  in_use = omega (arith, in_use-seated s party client charge told);
 }
 
 or_true : (a b : Bool) → b ≡ true → (a || b) ≡ true
@@ -155,18 +155,18 @@ without_weaker : (p q : Lingerer → Bool) (xs : List Lingerer) → list_any p (
 without_weaker p q [] h = h
 without_weaker p q (x ∷ xs) h = without_weaker_step p q x xs (q x) refl (without_weaker p q xs) h
 
-reseated_fuller : (r : Rules) (s : State) (q : Queuer) (charge : Charge) → LingersFor s q.client charge → IsFuller r s (reseated s q.party q.client charge false)
-reseated_fuller r s q charge (l, e, f) =
-    let h : Holder = record { party = q.party; client = q.client; charge = charge; beat = s.now; told = false } in
-    let same : l.client ≡ q.client = client_eq l.client q.client (find_passes (is_left_by q.client) s.lingering l e) in
+pub reseated_fuller : (r : Rules) (s : State) (party : ℕ) (client : Client) (charge : Charge) (told : Bool) → LingersFor s client charge → IsFuller r s (with_seat_again s party client charge told)
+reseated_fuller r s party client charge told (l, e, f) =
+    let h : Holder = record { party = party; client = client; charge = charge; beat = s.now; told = told } in
+    let same : l.client ≡ client = client_eq l.client client (find_passes (is_left_by client) s.lingering l e) in
     record {
-      lingers = λ c. without_weaker (is_left_by c) (is_left_by q.client) s.lingering;
+      lingers = λ c. without_weaker (is_left_by c) (is_left_by client) s.lingering;
       matched = λ line.
           let more : _ ≡ _ = count-with_holder (λ (x : Holder). applies r.groups x.client line) h s.holders in
-          let less : _ ≡ _ = rw same at (count-without_first (λ (x : Lingerer). applies r.groups x.client line) (is_left_by q.client) s.lingering l e) in
+          let less : _ ≡ _ = rw same at (count-without_first (λ (x : Lingerer). applies r.groups x.client line) (is_left_by client) s.lingering l e) in
           omega (arith, more, less);
-      charges = λ c. omega (arith, charges-reseated s q.party q.client charge false c (l, e, f));
-      in_use = omega (arith, in_use-reseated s q.party q.client charge false (l, e, f));
+      charges = λ c. omega (arith, charges-reseated s party client charge told c (l, e, f));
+      in_use = omega (arith, in_use-reseated s party client charge told (l, e, f));
     }
 
 -- whoever stays in the queue has no seat then, and none later
@@ -179,25 +179,25 @@ none_step : (a b c d : Bool) → (a ≡ false → c ≡ false) → (b ≡ false 
 none_step true b c d f g h = let never : true ≡ false = h in cc
 none_step false b c d f g h = rw (f refl, g h) refl
 
-still_served : (r : Rules) (s new : State) (qs : List Queuer) → IsFuller r s new → list_any (λ (q : Queuer). is_seat (decide r s q.client)) qs ≡ false → list_any (λ (q : Queuer). is_seat (decide r new q.client)) qs ≡ false
+pub still_served : (r : Rules) (s new : State) (qs : List Queuer) → IsFuller r s new → list_any (λ (q : Queuer). is_seat (decide r s q.client)) qs ≡ false → list_any (λ (q : Queuer). is_seat (decide r new q.client)) qs ≡ false
 still_served r s new [] u h = refl
 still_served r s new (q ∷ qs) u h =
     none_step (is_seat (decide r s q.client)) (list_any (λ (x : Queuer). is_seat (decide r s x.client)) qs) (is_seat (decide r new q.client)) (list_any (λ (x : Queuer). is_seat (decide r new x.client)) qs)
     (none_before r s new q.client (is_seat (decide r new q.client)) refl u) (still_served r s new qs u) h
 
-joined_served : (r : Rules) (s : State) (q : Queuer) → is_seat (decide r s q.client) ≡ false → IsServed r s → IsServed r (joined s q)
+pub joined_served : (r : Rules) (s : State) (q : Queuer) → is_seat (decide r s q.client) ≡ false → IsServed r s → IsServed r (with_queuer s q)
 joined_served r s q e h = list_any-append (λ (x : Queuer). is_seat (decide r s x.client)) s.queue (q ∷ []) ∙ rw (h, e) refl
 
-offered_served : (r : Rules) (s : State) (q : Queuer) (d : Decision) → decide r s q.client ≡ d → IsServed r s → IsServed r (offered s q d)
+offered_served : (r : Rules) (s : State) (q : Queuer) (d : Decision) → decide r s q.client ≡ d → IsServed r s → IsServed r (with_offer s q d)
 offered_served r s q (Barred line) e h = joined_served r s q (ap is_seat e) h
-offered_served r s q (Retake charge) e h = still_served r s (reseated s q.party q.client charge false) s.queue (reseated_fuller r s q charge (retakes r s q.client charge e)) h
+offered_served r s q (Retake charge) e h = still_served r s (with_seat_again s q.party q.client charge false) s.queue (reseated_fuller r s q.party q.client charge false (retakes r s q.client charge e)) h
 offered_served r s q (Capped line) e h = joined_served r s q (ap is_seat e) h
-offered_served r s q (Grant charge) e h = still_served r s (seated s q.party q.client charge false) s.queue (seated_fuller r s q charge) h
+offered_served r s q (Grant charge) e h = still_served r s (with_seat s q.party q.client charge false) s.queue (seated_fuller r s q.party q.client charge false) h
 offered_served r s q Full e h = joined_served r s q (ap is_seat e) h
 
 served_all : (r : Rules) (s : State) (qs : List Queuer) → IsServed r s → IsServed r (serve r s qs)
 served_all r s [] h = h
-served_all r s (q ∷ qs) h = served_all r (offered s q (decide r s q.client)) qs (offered_served r s q (decide r s q.client) refl h)
+served_all r s (q ∷ qs) h = served_all r (with_offer s q (decide r s q.client)) qs (offered_served r s q (decide r s q.client) refl h)
 
 -- right after settling nobody waits who could have a seat
 pub settled_served : (r : Rules) (s : State) (moment : ℕ) → IsServed r (settle r s moment)

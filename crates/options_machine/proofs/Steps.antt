@@ -1,26 +1,32 @@
 use Rattle.std.proofs.Common.{◌≡◌, ℕ, ◌+◌, ◌<◌, ◌≤◌, Bool, true, false, cond, List, [], ◌∷◌, ◌++◌, length, refl, sym, ◌∙◌, arith, subst, ltb, eqb, not, ◌&&◌, Option, None, Some, map, filter, length-append, append_assoc, append-nil}
 use Rattle.std.specs.List.{count_by, find}
 use Rattle.std.specs.Option.{option_map}
+use Rattle.std.proofs.lemmas.List.{length-map}
 use Rattle.std.proofs.lemmas.Bool.{eqb-true, ltb-true}
 use Rattle.lic_types.specs.declared.client.Client.{Client}
 use Rattle.options_machine.specs.declared.decision.Decision.{Decision}
 use Rattle.options_machine.specs.declared.decision.Decision.TheVariants.{Barred, Retake, Capped, Grant, Full}
 use Rattle.options_machine.specs.declared.decision.Place.{Place}
 use Rattle.options_machine.specs.declared.decision.Place.TheVariants.{Told, Untold, Waiting, Away}
+use Rattle.options_machine.specs.declared.effect.Effect.{Effect}
+use Rattle.options_machine.specs.declared.effect.Effect.TheVariants.{Nothing, Tell, Release, Linger, Unqueue, Seat, Reseat, Join}
 use Rattle.options_machine.specs.declared.limits.Limit.{Limit}
+use Rattle.options_machine.specs.declared.reply.Ask.{Ask}
+use Rattle.options_machine.specs.declared.reply.Ask.TheVariants as ask
 use Rattle.options_machine.specs.declared.reply.Charge.{Charge}
 use Rattle.options_machine.specs.declared.reply.Charge.TheVariants.{Reserve, Open}
-use Rattle.options_machine.specs.declared.reply.Kind.{Kind}
-use Rattle.options_machine.specs.declared.reply.Kind.TheVariants as kind
 use Rattle.options_machine.specs.declared.reply.Request.{Request}
+use Rattle.options_machine.specs.declared.reply.Task.{Task}
+use Rattle.options_machine.specs.declared.reply.Task.TheVariants.{Answer, Reread}
 use Rattle.options_machine.specs.declared.rows.Holder.{Holder}
 use Rattle.options_machine.specs.declared.rows.Lingerer.{Lingerer}
 use Rattle.options_machine.specs.declared.rows.Queuer.{Queuer}
 use Rattle.options_machine.specs.Rules.{IsSound, Rules, applies, cut_of}
 use Rattle.options_machine.specs.State.{State, charges, entries, in_force, in_use, is_holder, is_queuer, place, place_of, place_of_holder, same_charge, set_at}
 use Rattle.options_machine.specs.Decide.{decide, number_of_limit}
-use Rattle.options_machine.specs.Settle.{moved, offered, reseated, seated, serve, settle, timely}
-use Rattle.options_machine.specs.Step.{answered, charged_anew, full, holders_anew, left, lingering_anew, next_charge, most_lingering, released, reserve_or_open, served_or_reread, set_asked, step, taken, times, to_away, to_told, to_untold, to_waiting, told, told_if, unqueued, waits}
+use Rattle.options_machine.specs.Settle.{moved, serve, settle, timely, with_offer, with_queuer, with_seat, with_seat_again}
+use Rattle.options_machine.specs.Apply.{Fits, IsPlace, apply, most_lingering, told_if, with_lingerer, with_told, without_holder, without_queuer}
+use Rattle.options_machine.specs.Step.{answer_by_decision, answer_of, answer_of_return, entry_left, holders_anew, lingering_anew, lingers, next_charge, reserve_or_open, set_of, standing_of, step, step_of_task, task, times, to_away, to_told, to_untold, to_waiting, with_charges_anew}
 use Rattle.options_machine.specs.Run.{AsksForSet, IsBelow}
 use Rattle.options_machine.specs.Law.{AreSets}
 use Rattle.options_machine.specs.Kept.{IsKept}
@@ -37,40 +43,50 @@ kept_less r s new u c e k = record {
 
 -- telling a party changes no number
 
-pub length_mapped : {X : Type 0} (f : X → X) (xs : List X) → length (map f xs) ≡ length xs
-length_mapped f [] = refl
-length_mapped f (x ∷ xs) = omega (arith, length_mapped f xs)
-
 pub told_charge : (b : Bool) (now : ℕ) (c : Charge) (h : Holder) → same_charge (told_if b now h).charge c ≡ same_charge h.charge c
 told_charge true now c h = refl
 told_charge false now c h = refl
 
-told_party : (b : Bool) (now p : ℕ) (h : Holder) → is_holder p (told_if b now h) ≡ is_holder p h
+pub told_party : (b : Bool) (now p : ℕ) (h : Holder) → is_holder p (told_if b now h) ≡ is_holder p h
 told_party true now p h = refl
 told_party false now p h = refl
 
-pub kept_told : (r : Rules) (s : State) (party : ℕ) → IsKept r s → IsKept r (told s party)
+pub charges-told : (s : State) (party : ℕ) (c : Charge) → charges (with_told s party) c ≡ charges s c
+charges-told s party c =
+    omega (arith, count-map (λ (h : Holder). same_charge h.charge c) (λ (h : Holder). told_if (is_holder party h) s.now h) (λ h. told_charge (is_holder party h) s.now c h) s.holders)
+
+pub charges-released : (s : State) (party : ℕ) (c : Charge) → charges (without_holder s party) c ≤ charges s c
+charges-released s party c = omega (arith, count-filter_le (λ (h : Holder). same_charge h.charge c) (λ (h : Holder). not (is_holder party h)) s.holders)
+
+-- what lingers of a holder has its charge
+pub charges-left : (s : State) (party : ℕ) (h : Holder) (l : Lingerer) (c : Charge) → find (is_holder party) s.holders ≡ Some h → l.charge ≡ h.charge → charges (with_lingerer s party l) c ≤ charges s c
+charges-left s party h l c e same =
+    let has : Lingerer → Bool = λ (x : Lingerer). same_charge x.charge c in
+    let more : count_by has (s.lingering ++ l ∷ []) ≡ count_by has s.lingering + cond (same_charge h.charge c) 1 0 = subst (λ (x : Charge). count_by has (s.lingering ++ l ∷ []) ≡ count_by has s.lingering + cond (same_charge x c) 1 0) same (count-push has s.lingering l) in
+    omega (arith, more, count-filter_found (λ (x : Holder). same_charge x.charge c) (is_holder party) s.holders h e)
+
+kept_told : (r : Rules) (s : State) (party : ℕ) → IsKept r s → IsKept r (with_told s party)
 kept_told r s party k =
     let f : Holder → Holder = λ (h : Holder). told_if (is_holder party h) s.now h in
-    kept_less r s (told s party)
-    (omega (arith, length_mapped f s.holders))
-    (λ c. omega (arith, count-map (λ (h : Holder). same_charge h.charge c) f (λ h. told_charge (is_holder party h) s.now c h) s.holders))
+    kept_less r s (with_told s party)
+    (omega (arith, length-map s.holders f))
+    (λ c. omega (arith, charges-told s party c))
     (λ p. omega (arith, count-map (is_holder p) f (λ h. told_party (is_holder party h) s.now p h) s.holders))
     k
 
-pub kept_released : (r : Rules) (s : State) (party : ℕ) → IsKept r s → IsKept r (released s party)
+kept_released : (r : Rules) (s : State) (party : ℕ) → IsKept r s → IsKept r (without_holder s party)
 kept_released r s party k =
     let others : Holder → Bool = λ (h : Holder). not (is_holder party h) in
-    kept_less r s (released s party)
+    kept_less r s (without_holder s party)
     (omega (arith, length-filter_le others s.holders))
-    (λ c. omega (arith, count-filter_le (λ (h : Holder). same_charge h.charge c) others s.holders))
+    (λ c. charges-released s party c)
     (λ p. omega (arith, count-filter_le (is_holder p) others s.holders))
     k
 
-pub kept_unqueued : (r : Rules) (s : State) (party : ℕ) → IsKept r s → IsKept r (unqueued s party)
+kept_unqueued : (r : Rules) (s : State) (party : ℕ) → IsKept r s → IsKept r (without_queuer s party)
 kept_unqueued r s party k =
     let others : Queuer → Bool = λ (q : Queuer). not (is_queuer party q) in
-    kept_less r s (unqueued s party) (omega arith) (λ c. omega arith) (λ p. omega (arith, count-filter_le (is_queuer p) others s.queue)) k
+    kept_less r s (without_queuer s party) (omega arith) (λ c. omega arith) (λ p. omega (arith, count-filter_le (is_queuer p) others s.queue)) k
 
 -- a told holder that gives its seat back
 
@@ -79,62 +95,14 @@ length_all [] = refl
 length_all {X} (x ∷ xs) = count-cons (λ (y : X). true) x xs ∙ omega (arith, length_all xs)
 
 -- its seat lingers
-lingers_kept : (r : Rules) (s : State) (h : Holder) (until : ℕ) → find (is_holder h.party) s.holders ≡ Some h → IsKept r s
-    → IsKept r (record (released s h.party) { lingering = s.lingering ++ (record { client = h.client; charge = h.charge; until = until }) ∷ [] })
-lingers_kept r s h until e k =
-    let l : Lingerer = record { client = h.client; charge = h.charge; until = until } in
-    let others : List Holder = filter (λ (x : Holder). not (is_holder h.party x)) s.holders in
-    kept_less r s (record (released s h.party) { lingering = s.lingering ++ l ∷ [] })
-    (omega (arith, length-append s.lingering (l ∷ []), length_all others, length_all s.holders, count-filter_found (λ (x : Holder). true) (is_holder h.party) s.holders h e))
-    (λ c. omega (arith, count-push (λ (x : Lingerer). same_charge x.charge c) s.lingering l, count-filter_found (λ (x : Holder). same_charge x.charge c) (is_holder h.party) s.holders h e))
-    (λ p. omega (arith, count-filter_le (is_holder p) (λ (x : Holder). not (is_holder h.party x)) s.holders))
+kept_left : (r : Rules) (s : State) (party : ℕ) (h : Holder) (l : Lingerer) → find (is_holder party) s.holders ≡ Some h → l.charge ≡ h.charge → IsKept r s → IsKept r (with_lingerer s party l)
+kept_left r s party h l e same k =
+    let others : List Holder = filter (λ (x : Holder). not (is_holder party x)) s.holders in
+    kept_less r s (with_lingerer s party l)
+    (omega (arith, length-append s.lingering (l ∷ []), length_all others, length_all s.holders, count-filter_found (λ (x : Holder). true) (is_holder party) s.holders h e))
+    (λ c. charges-left s party h l c e same)
+    (λ p. omega (arith, count-filter_le (is_holder p) (λ (x : Holder). not (is_holder party x)) s.holders))
     k
-
-left_cases : (r : Rules) (s : State) (h : Holder) (b : Bool) → ltb 0 r.linger && ltb (length s.lingering) most_lingering ≡ b → find (is_holder h.party) s.holders ≡ Some h → IsKept r s → IsKept r (left r s h).1
-left_cases r s h true g e k = rw g (lingers_kept r s h (s.now + r.linger) e k)
-left_cases r s h false g e k = rw g (kept_released r s h.party k)
-
-pub kept_left : (r : Rules) (s : State) (h : Holder) → find (is_holder h.party) s.holders ≡ Some h → IsKept r s → IsKept r (left r s h).1
-kept_left r s h e k = left_cases r s h (ltb 0 r.linger && ltb (length s.lingering) most_lingering) refl e k
-
--- what each party may ask
-
-kept_to_told : (r : Rules) (s : State) (h : Holder) (asked : Kind) → find (is_holder h.party) s.holders ≡ Some h → IsKept r s → IsKept r (to_told r s h asked).1
-kept_to_told r s h kind.Checkout e k = k
-kept_to_told r s h kind.Queue e k = k
-kept_to_told r s h kind.Checkin e k = kept_left r s h e k
-kept_to_told r s h kind.Quit e k = kept_left r s h e k
-kept_to_told r s h kind.Beat e k = kept_told r s h.party k
-kept_to_told r s h kind.Look e k = k
-kept_to_told r s h kind.Count e k = k
-kept_to_told r s h (kind.Reread n) e k = k
-
-kept_to_untold : (r : Rules) (s : State) (h : Holder) (asked : Kind) → IsKept r s → IsKept r (to_untold r s h asked).1
-kept_to_untold r s h kind.Checkout k = kept_told r s h.party k
-kept_to_untold r s h kind.Queue k = kept_told r s h.party k
-kept_to_untold r s h kind.Look k = kept_told r s h.party k
-kept_to_untold r s h kind.Beat k = kept_told r s h.party k
-kept_to_untold r s h kind.Checkin k = kept_released r s h.party k
-kept_to_untold r s h kind.Quit k = kept_released r s h.party k
-kept_to_untold r s h kind.Count k = k
-kept_to_untold r s h (kind.Reread n) k = k
-
-kept_waits : (r : Rules) (s : State) (q : Queuer) (d : Decision) → IsKept r s → IsKept r (waits s q d).1
-kept_waits r s q (Barred line) k = kept_unqueued r s q.party k
-kept_waits r s q (Retake charge) k = k
-kept_waits r s q (Capped line) k = k
-kept_waits r s q (Grant charge) k = k
-kept_waits r s q Full k = k
-
-kept_to_waiting : (r : Rules) (s : State) (q : Queuer) (asked : Kind) → IsKept r s → IsKept r (to_waiting r s q asked).1
-kept_to_waiting r s q kind.Checkout k = kept_waits r s q (decide r s q.client) k
-kept_to_waiting r s q kind.Queue k = kept_waits r s q (decide r s q.client) k
-kept_to_waiting r s q kind.Look k = kept_waits r s q (decide r s q.client) k
-kept_to_waiting r s q kind.Beat k = kept_waits r s q (decide r s q.client) k
-kept_to_waiting r s q kind.Checkin k = kept_unqueued r s q.party k
-kept_to_waiting r s q kind.Quit k = kept_unqueued r s q.party k
-kept_to_waiting r s q kind.Count k = k
-kept_to_waiting r s q (kind.Reread n) k = k
 
 -- a party that has nothing has no entry
 abbrev pub HasNone : State → ℕ → Type 0
@@ -165,46 +133,6 @@ kept_of r s k = record { within = k.within; reserved = k.reserved; single = λ p
 seat_for : (party : ℕ) (client : Client) (p : ℕ) → cond (eqb party p) 1 0 + count_by (is_queuer p) [] ≤ count_by (is_queuer p) ((record { party = party; client = client }) ∷ [])
 seat_for party client p = let q : Queuer = record { party = party; client = client } in omega (arith, count-cons (is_queuer p) q [])
 
-kept_full : (r : Rules) (s : State) (party : ℕ) (client : Client) (may_wait : Bool) → HasNone s party → IsKept r s → IsKept r (full r s party client may_wait).1
-kept_full r s party client true none k =
-    let q : Queuer = record { party = party; client = client } in
-    let one : Keeps r s (q ∷ []) = keeps_one r s party client none k in
-    record {
-      within = k.within;
-      reserved = k.reserved;
-      single = λ p. omega (arith, one.single p, count-push (is_queuer p) s.queue q, count-cons (is_queuer p) q []);
-    }
-kept_full r s party client false none k = k
-
-kept_taken : (r : Rules) (s : State) (party : ℕ) (client : Client) (may_wait : Bool) (d : Decision) → decide r s client ≡ d → IsSound r → HasNone s party → IsKept r s → IsKept r (taken r s party client may_wait d).1
-kept_taken r s party client may_wait (Barred line) e g none k = k
-kept_taken r s party client may_wait (Retake charge) e g none k =
-    kept_of r (reseated s party client charge true)
-    (keeps_reseated r s party client charge true ((record { party = party; client = client }) ∷ []) [] (retakes r s client charge e) (seat_for party client) (keeps_one r s party client none k))
-kept_taken r s party client may_wait (Capped line) e g none k = k
-kept_taken r s party client may_wait (Grant charge) e g none k =
-    let room : _ × FitsCharge r s charge = grants r s client charge g k.reserved e in
-    kept_of r (seated s party client charge true)
-    (keeps_seated r s party client charge true ((record { party = party; client = client }) ∷ []) [] room.0 room.1 (seat_for party client) (keeps_one r s party client none k))
-kept_taken r s party client may_wait Full e g none k = kept_full r s party client may_wait none k
-
-kept_to_away : (r : Rules) (s : State) (party : ℕ) (client : Client) (asked : Kind) → IsSound r → HasNone s party → IsKept r s → IsKept r (to_away r s party client asked).1
-kept_to_away r s party client kind.Checkout g none k = kept_taken r s party client false (decide r s client) refl g none k
-kept_to_away r s party client kind.Queue g none k = kept_taken r s party client true (decide r s client) refl g none k
-kept_to_away r s party client kind.Checkin g none k = k
-kept_to_away r s party client kind.Quit g none k = k
-kept_to_away r s party client kind.Beat g none k = k
-kept_to_away r s party client kind.Look g none k = k
-kept_to_away r s party client kind.Count g none k = k
-kept_to_away r s party client (kind.Reread n) g none k = k
-
--- what a place says of the lists
-abbrev pub IsPlace : State → ℕ → Place → Type 0
-IsPlace s party (Told h) = (find (is_holder party) s.holders ≡ Some h) × (h.told ≡ true)
-IsPlace s party (Untold h) = (find (is_holder party) s.holders ≡ Some h) × (h.told ≡ false)
-IsPlace s party (Waiting q) = (find (is_holder party) s.holders ≡ None) × (find (is_queuer party) s.queue ≡ Some q)
-IsPlace s party Away = (find (is_holder party) s.holders ≡ None) × (find (is_queuer party) s.queue ≡ None)
-
 holder_place : (s : State) (party : ℕ) (h : Holder) (b : Bool) → h.told ≡ b → find (is_holder party) s.holders ≡ Some h → IsPlace s party (place_of_holder b h)
 holder_place s party h true e f = (f, e)
 holder_place s party h false e f = (f, e)
@@ -223,11 +151,82 @@ away_has_none s party (e, f) = omega (arith, count_none (is_holder party) s.hold
 pub of_party : (party : ℕ) (s : State) (h : Holder) → find (is_holder party) s.holders ≡ Some h → h.party ≡ party
 of_party party s h e = eqb-true h.party party (find_passes (is_holder party) s.holders h e)
 
-pub kept_answered : (r : Rules) (s : State) (party : ℕ) (client : Client) (asked : Kind) (at : Place) → IsPlace s party at → IsSound r → IsKept r s → IsKept r (answered r s party client asked at).1
-kept_answered r s party client asked (Told h) (e, t) g k = kept_to_told r s h asked (subst (λ (n : ℕ). find (is_holder n) s.holders ≡ Some h) (sym (of_party party s h e)) e) k
-kept_answered r s party client asked (Untold h) e g k = kept_to_untold r s h asked k
-kept_answered r s party client asked (Waiting q) e g k = kept_to_waiting r s q asked k
-kept_answered r s party client asked Away e g k = kept_to_away r s party client asked g (away_has_none s party e) k
+-- each effect of the table fits
+
+room_left : (r : Rules) (s : State) → lingers r s ≡ true → length s.lingering < most_lingering
+room_left r s e = ltb-true _ _ (and_right (ltb 0 r.linger) (ltb (length s.lingering) most_lingering) e)
+
+fits_given_back : (r : Rules) (s : State) (party : ℕ) (client : Client) (h : Holder) (b : Bool) → lingers r s ≡ b → find (is_holder party) s.holders ≡ Some h → Fits r s party client (answer_of_return (entry_left r s h)).1
+fits_given_back r s party client h true g e = rw g (h, e, refl, refl, room_left r s g)
+fits_given_back r s party client h false g e = rw g (h, e)
+
+fits_told : (r : Rules) (s : State) (party : ℕ) (client : Client) (h : Holder) (asked : Ask) → find (is_holder party) s.holders ≡ Some h → Fits r s party client (to_told r s h asked).1
+fits_told r s party client h ask.GiveBack e = fits_given_back r s party client h (lingers r s) refl e
+fits_told r s party client h ask.Beat e = (h, e)
+fits_told r s party client h other e = tt
+
+fits_untold : (r : Rules) (s : State) (party : ℕ) (client : Client) (h : Holder) (asked : Ask) → find (is_holder party) s.holders ≡ Some h → Fits r s party client (to_untold r s h asked).1
+fits_untold r s party client h ask.Count e = tt
+fits_untold r s party client h other e = (h, e)
+
+fits_standing : (r : Rules) (s : State) (party : ℕ) (client : Client) (q : Queuer) (d : Decision) → IsPlace s party (Waiting q) → Fits r s party client (standing_of s party d).1
+fits_standing r s party client q (Barred line) (e, f) = (e, (q, f))
+fits_standing r s party client q other e = tt
+
+fits_waiting : (r : Rules) (s : State) (party : ℕ) (client : Client) (q : Queuer) (asked : Ask) → IsPlace s party (Waiting q) → Fits r s party client (to_waiting r s party q.client asked).1
+fits_waiting r s party client q ask.GiveBack (e, f) = (e, (q, f))
+fits_waiting r s party client q ask.Count e = tt
+fits_waiting r s party client q other e = fits_standing r s party client q (decide r s q.client) e
+
+fits_decided : (r : Rules) (s : State) (party : ℕ) (client : Client) (may_wait : Bool) (d : Decision) → decide r s client ≡ d → IsPlace s party Away → Fits r s party client (answer_by_decision r s may_wait d).1
+fits_decided r s party client may_wait (Retake charge) d e = (e, d)
+fits_decided r s party client may_wait (Grant charge) d e = (e, d)
+fits_decided r s party client true Full d e = (e, d)
+fits_decided r s party client false Full d e = tt
+fits_decided r s party client may_wait other d e = tt
+
+fits_away : (r : Rules) (s : State) (party : ℕ) (client : Client) (asked : Ask) → IsPlace s party Away → Fits r s party client (to_away r s client asked).1
+fits_away r s party client (ask.Seat may_wait) e = fits_decided r s party client may_wait (decide r s client) refl e
+fits_away r s party client other e = tt
+
+pub answer_fits : (r : Rules) (s : State) (party : ℕ) (client : Client) (asked : Ask) (at : Place) → IsPlace s party at → Fits r s party client (answer_of r s party client asked at).1
+answer_fits r s party client asked (Told h) (e, t) = fits_told r s party client h asked e
+answer_fits r s party client asked (Untold h) (e, t) = fits_untold r s party client h asked e
+answer_fits r s party client asked (Waiting q) e = fits_waiting r s party client q asked e
+answer_fits r s party client asked Away e = fits_away r s party client asked e
+
+-- an effect that fits keeps what every step keeps
+
+kept_seated : (r : Rules) (s : State) (party : ℕ) (client : Client) (charge : Charge) → decide r s client ≡ Grant charge → IsSound r → HasNone s party → IsKept r s → IsKept r (with_seat s party client charge true)
+kept_seated r s party client charge e g none k =
+    let room : _ × FitsCharge r s charge = grants r s client charge g k.reserved e in
+    kept_of r (with_seat s party client charge true)
+    (keeps_seated r s party client charge true ((record { party = party; client = client }) ∷ []) [] room.0 room.1 (seat_for party client) (keeps_one r s party client none k))
+
+kept_reseated : (r : Rules) (s : State) (party : ℕ) (client : Client) (charge : Charge) → decide r s client ≡ Retake charge → HasNone s party → IsKept r s → IsKept r (with_seat_again s party client charge true)
+kept_reseated r s party client charge e none k =
+    kept_of r (with_seat_again s party client charge true)
+    (keeps_reseated r s party client charge true ((record { party = party; client = client }) ∷ []) [] (retakes r s client charge e) (seat_for party client) (keeps_one r s party client none k))
+
+kept_joined : (r : Rules) (s : State) (party : ℕ) (client : Client) → HasNone s party → IsKept r s → IsKept r (with_queuer s (record { party = party; client = client }))
+kept_joined r s party client none k =
+    let q : Queuer = record { party = party; client = client } in
+    let one : Keeps r s (q ∷ []) = keeps_one r s party client none k in
+    record {
+      within = k.within;
+      reserved = k.reserved;
+      single = λ p. omega (arith, one.single p, count-push (is_queuer p) s.queue q, count-cons (is_queuer p) q []);
+    }
+
+pub kept_apply : (r : Rules) (s : State) (party : ℕ) (client : Client) (x : Effect) → Fits r s party client x → IsSound r → IsKept r s → IsKept r (apply s party client x)
+kept_apply r s party client Nothing f g k = k
+kept_apply r s party client Tell f g k = kept_told r s party k
+kept_apply r s party client Release f g k = kept_released r s party k
+kept_apply r s party client (Linger l) (h, e, who, same, room) g k = kept_left r s party h l e same k
+kept_apply r s party client Unqueue f g k = kept_unqueued r s party k
+kept_apply r s party client (Seat charge) (none, e) g k = kept_seated r s party client charge e g (away_has_none s party none) k
+kept_apply r s party client (Reseat charge) (none, e) g k = kept_reseated r s party client charge e (away_has_none s party none) k
+kept_apply r s party client Join (none, e) g k = kept_joined r s party client (away_has_none s party none) k
 
 -- charges given anew
 
@@ -287,7 +286,7 @@ parties_anew r given p (h ∷ hs) =
     count-cons (is_holder p) (record h { charge = c }) (holders_anew r (given ++ c ∷ []) hs) ∙ rw (parties_anew r (given ++ c ∷ []) p hs) (sym (count-cons (is_holder p) h hs))
 
 -- charges given anew by rules of the same count keep what every step keeps
-pub kept_anew : (old r : Rules) (s : State) → IsSound r → old.count ≡ r.count → IsKept old s → IsKept r (charged_anew r s)
+pub kept_anew : (old r : Rules) (s : State) → IsSound r → old.count ≡ r.count → IsKept old s → IsKept r (with_charges_anew r s)
 kept_anew old r s g same k =
     let hs : List Holder = holders_anew r [] s.holders in
     let given : List Charge = map (λ (h : Holder). h.charge) hs in
@@ -295,156 +294,21 @@ kept_anew old r s g same k =
     let all : GivenWithin r (given ++ map (λ (l : Lingerer). l.charge) (lingering_anew r given s.lingering)) = lingering_within r given s.lingering g first in
     record {
       within = omega (arith, length_holders_anew r [] s.holders, length_lingering_anew r given s.lingering, k.within, same);
-      reserved = λ line. subst (λ (n : ℕ). n ≤ cut_of line r.reserves) (charges_is (charged_anew r s) (Reserve line)) (all line);
+      reserved = λ line. subst (λ (n : ℕ). n ≤ cut_of line r.reserves) (charges_is (with_charges_anew r s) (Reserve line)) (all line);
       single = λ p. omega (arith, parties_anew r [] p s.holders, k.single p);
     }
 
--- no answer changes the rule set that holds
+-- no effect changes the rule set that holds, or the moment
 
-left_set : (r : Rules) (s : State) (h : Holder) (b : Bool) → ltb 0 r.linger && ltb (length s.lingering) most_lingering ≡ b → (left r s h).1.set ≡ s.set
-left_set r s h true g = rw g refl
-left_set r s h false g = rw g refl
+pub apply_set : (s : State) (party : ℕ) (client : Client) (x : Effect) → (apply s party client x).set ≡ s.set
+apply_set s party client Nothing = refl
+apply_set s party client other = refl
 
-told_set : (r : Rules) (s : State) (h : Holder) (asked : Kind) → (to_told r s h asked).1.set ≡ s.set
-told_set r s h kind.Checkout = refl
-told_set r s h kind.Queue = refl
-told_set r s h kind.Checkin = left_set r s h (ltb 0 r.linger && ltb (length s.lingering) most_lingering) refl
-told_set r s h kind.Quit = left_set r s h (ltb 0 r.linger && ltb (length s.lingering) most_lingering) refl
-told_set r s h kind.Beat = refl
-told_set r s h kind.Look = refl
-told_set r s h kind.Count = refl
-told_set r s h (kind.Reread n) = refl
+pub apply_now : (s : State) (party : ℕ) (client : Client) (x : Effect) → (apply s party client x).now ≡ s.now
+apply_now s party client Nothing = refl
+apply_now s party client other = refl
 
-untold_set : (r : Rules) (s : State) (h : Holder) (asked : Kind) → (to_untold r s h asked).1.set ≡ s.set
-untold_set r s h kind.Checkout = refl
-untold_set r s h kind.Queue = refl
-untold_set r s h kind.Checkin = refl
-untold_set r s h kind.Quit = refl
-untold_set r s h kind.Beat = refl
-untold_set r s h kind.Look = refl
-untold_set r s h kind.Count = refl
-untold_set r s h (kind.Reread n) = refl
-
-waits_set : (s : State) (q : Queuer) (d : Decision) → (waits s q d).1.set ≡ s.set
-waits_set s q (Barred line) = refl
-waits_set s q (Retake charge) = refl
-waits_set s q (Capped line) = refl
-waits_set s q (Grant charge) = refl
-waits_set s q Full = refl
-
-waiting_set : (r : Rules) (s : State) (q : Queuer) (asked : Kind) → (to_waiting r s q asked).1.set ≡ s.set
-waiting_set r s q kind.Checkout = waits_set s q (decide r s q.client)
-waiting_set r s q kind.Queue = waits_set s q (decide r s q.client)
-waiting_set r s q kind.Checkin = refl
-waiting_set r s q kind.Quit = refl
-waiting_set r s q kind.Beat = waits_set s q (decide r s q.client)
-waiting_set r s q kind.Look = waits_set s q (decide r s q.client)
-waiting_set r s q kind.Count = refl
-waiting_set r s q (kind.Reread n) = refl
-
-taken_set : (r : Rules) (s : State) (party : ℕ) (client : Client) (may_wait : Bool) (d : Decision) → (taken r s party client may_wait d).1.set ≡ s.set
-taken_set r s party client may_wait (Barred line) = refl
-taken_set r s party client may_wait (Retake charge) = refl
-taken_set r s party client may_wait (Capped line) = refl
-taken_set r s party client may_wait (Grant charge) = refl
-taken_set r s party client true Full = refl
-taken_set r s party client false Full = refl
-
-away_set : (r : Rules) (s : State) (party : ℕ) (client : Client) (asked : Kind) → (to_away r s party client asked).1.set ≡ s.set
-away_set r s party client kind.Checkout = taken_set r s party client false (decide r s client)
-away_set r s party client kind.Queue = taken_set r s party client true (decide r s client)
-away_set r s party client kind.Checkin = refl
-away_set r s party client kind.Quit = refl
-away_set r s party client kind.Beat = refl
-away_set r s party client kind.Look = refl
-away_set r s party client kind.Count = refl
-away_set r s party client (kind.Reread n) = refl
-
--- no answer changes the moment
-
-left_now : (r : Rules) (s : State) (h : Holder) (b : Bool) → ltb 0 r.linger && ltb (length s.lingering) most_lingering ≡ b → (left r s h).1.now ≡ s.now
-left_now r s h true g = rw g refl
-left_now r s h false g = rw g refl
-
-told_now : (r : Rules) (s : State) (h : Holder) (asked : Kind) → (to_told r s h asked).1.now ≡ s.now
-told_now r s h kind.Checkout = refl
-told_now r s h kind.Queue = refl
-told_now r s h kind.Checkin = left_now r s h (ltb 0 r.linger && ltb (length s.lingering) most_lingering) refl
-told_now r s h kind.Quit = left_now r s h (ltb 0 r.linger && ltb (length s.lingering) most_lingering) refl
-told_now r s h kind.Beat = refl
-told_now r s h kind.Look = refl
-told_now r s h kind.Count = refl
-told_now r s h (kind.Reread n) = refl
-
-untold_now : (r : Rules) (s : State) (h : Holder) (asked : Kind) → (to_untold r s h asked).1.now ≡ s.now
-untold_now r s h kind.Checkout = refl
-untold_now r s h kind.Queue = refl
-untold_now r s h kind.Checkin = refl
-untold_now r s h kind.Quit = refl
-untold_now r s h kind.Beat = refl
-untold_now r s h kind.Look = refl
-untold_now r s h kind.Count = refl
-untold_now r s h (kind.Reread n) = refl
-
-waits_now : (s : State) (q : Queuer) (d : Decision) → (waits s q d).1.now ≡ s.now
-waits_now s q (Barred line) = refl
-waits_now s q (Retake charge) = refl
-waits_now s q (Capped line) = refl
-waits_now s q (Grant charge) = refl
-waits_now s q Full = refl
-
-waiting_now : (r : Rules) (s : State) (q : Queuer) (asked : Kind) → (to_waiting r s q asked).1.now ≡ s.now
-waiting_now r s q kind.Checkout = waits_now s q (decide r s q.client)
-waiting_now r s q kind.Queue = waits_now s q (decide r s q.client)
-waiting_now r s q kind.Checkin = refl
-waiting_now r s q kind.Quit = refl
-waiting_now r s q kind.Beat = waits_now s q (decide r s q.client)
-waiting_now r s q kind.Look = waits_now s q (decide r s q.client)
-waiting_now r s q kind.Count = refl
-waiting_now r s q (kind.Reread n) = refl
-
-taken_now : (r : Rules) (s : State) (party : ℕ) (client : Client) (may_wait : Bool) (d : Decision) → (taken r s party client may_wait d).1.now ≡ s.now
-taken_now r s party client may_wait (Barred line) = refl
-taken_now r s party client may_wait (Retake charge) = refl
-taken_now r s party client may_wait (Capped line) = refl
-taken_now r s party client may_wait (Grant charge) = refl
-taken_now r s party client true Full = refl
-taken_now r s party client false Full = refl
-
-away_now : (r : Rules) (s : State) (party : ℕ) (client : Client) (asked : Kind) → (to_away r s party client asked).1.now ≡ s.now
-away_now r s party client kind.Checkout = taken_now r s party client false (decide r s client)
-away_now r s party client kind.Queue = taken_now r s party client true (decide r s client)
-away_now r s party client kind.Checkin = refl
-away_now r s party client kind.Quit = refl
-away_now r s party client kind.Beat = refl
-away_now r s party client kind.Look = refl
-away_now r s party client kind.Count = refl
-away_now r s party client (kind.Reread n) = refl
-
--- one step of the rule sets keeps what every step keeps, by the rule set that holds then
-
-pub answered_set : (r : Rules) (s : State) (party : ℕ) (client : Client) (asked : Kind) (at : Place) → (answered r s party client asked at).1.set ≡ s.set
-answered_set r s party client asked (Told h) = told_set r s h asked
-answered_set r s party client asked (Untold h) = untold_set r s h asked
-answered_set r s party client asked (Waiting q) = waiting_set r s q asked
-answered_set r s party client asked Away = away_set r s party client asked
-
-kept_served : (sets : List Rules) (count : ℕ) (s : State) (party : ℕ) (client : Client) (asked : Kind) (o : Option ℕ) → IsBelow o (length sets) → AreSets sets count → s.set < length sets → IsKept (in_force sets s) s
-    → ((served_or_reread sets s party client asked o).1.set < length sets) × IsKept (in_force sets (served_or_reread sets s party client asked o).1) (served_or_reread sets s party client asked o).1
-kept_served sets count s party client asked None below g u k =
-    let same : (answered (in_force sets s) s party client asked (place s party)).1.set ≡ s.set = answered_set (in_force sets s) s party client asked (place s party) in
-    let kept : IsKept (in_force sets s) (answered (in_force sets s) s party client asked (place s party)).1 = kept_answered (in_force sets s) s party client asked (place s party) (place_is s party) (g.sound s.set u) k in
-    (omega (arith, same, u), subst (λ (n : ℕ). IsKept (set_at sets n) (answered (in_force sets s) s party client asked (place s party)).1) (sym same) kept)
-kept_served sets count s party client asked (Some n) below g u k =
-    (below, kept_anew (in_force sets s) (set_at sets n) (record s { set = n }) (g.sound n below) (g.same s.set u ∙ sym (g.same n below)) (record { within = k.within; reserved = k.reserved; single = k.single }))
-
-pub answered_now : (r : Rules) (s : State) (party : ℕ) (client : Client) (asked : Kind) (at : Place) → (answered r s party client asked at).1.now ≡ s.now
-answered_now r s party client asked (Told h) = told_now r s h asked
-answered_now r s party client asked (Untold h) = untold_now r s h asked
-answered_now r s party client asked (Waiting q) = waiting_now r s q asked
-answered_now r s party client asked Away = away_now r s party client asked
-
-offered_set : (s : State) (q : Queuer) (d : Decision) → (offered s q d).set ≡ s.set
+offered_set : (s : State) (q : Queuer) (d : Decision) → (with_offer s q d).set ≡ s.set
 offered_set s q (Barred line) = refl
 offered_set s q (Retake charge) = refl
 offered_set s q (Capped line) = refl
@@ -454,9 +318,9 @@ offered_set s q Full = refl
 -- settling changes no rule set
 pub serve_set : (r : Rules) (s : State) (qs : List Queuer) → (serve r s qs).set ≡ s.set
 serve_set r s [] = refl
-serve_set r s (q ∷ qs) = serve_set r (offered s q (decide r s q.client)) qs ∙ offered_set s q (decide r s q.client)
+serve_set r s (q ∷ qs) = serve_set r (with_offer s q (decide r s q.client)) qs ∙ offered_set s q (decide r s q.client)
 
-offered_now : (s : State) (q : Queuer) (d : Decision) → (offered s q d).now ≡ s.now
+offered_now : (s : State) (q : Queuer) (d : Decision) → (with_offer s q d).now ≡ s.now
 offered_now s q (Barred line) = refl
 offered_now s q (Retake charge) = refl
 offered_now s q (Capped line) = refl
@@ -465,7 +329,7 @@ offered_now s q Full = refl
 
 pub serve_now : (r : Rules) (s : State) (qs : List Queuer) → (serve r s qs).now ≡ s.now
 serve_now r s [] = refl
-serve_now r s (q ∷ qs) = serve_now r (offered s q (decide r s q.client)) qs ∙ offered_now s q (decide r s q.client)
+serve_now r s (q ∷ qs) = serve_now r (with_offer s q (decide r s q.client)) qs ∙ offered_now s q (decide r s q.client)
 
 pub settle_set : (r : Rules) (s : State) (moment : ℕ) → (settle r s moment).set ≡ s.set
 settle_set r s moment = serve_set r (record (timely r s moment) { queue = [] }) s.queue
@@ -486,10 +350,25 @@ kept_settled sets count s moment g k =
       kept = subst (λ (n : ℕ). IsKept (set_at sets n) (settle (in_force sets s) s moment)) (sym same) (kept_settle (in_force sets s) s moment (g.sound s.set k.set) k.kept);
     }
 
+-- the effect of an answer at a state
+abbrev pub effect_at : List Rules → State → ℕ → Client → Ask → Effect
+effect_at sets s party client asked = (answer_of (in_force sets s) s party client asked (place s party)).1
+
+pub fits_at : (sets : List Rules) (s : State) (party : ℕ) (client : Client) (asked : Ask) → Fits (in_force sets s) s party client (effect_at sets s party client asked)
+fits_at sets s party client asked = answer_fits (in_force sets s) s party client asked (place s party) (place_is s party)
+
+pub kept_done : (sets : List Rules) (count : ℕ) (s : State) (party : ℕ) (client : Client) (t : Task) → IsBelow (set_of t) (length sets) → AreSets sets count → IsKeptBy sets s → IsKeptBy sets (step_of_task sets s party client t).1
+kept_done sets count s party client (Answer asked) below g k =
+    let x : Effect = effect_at sets s party client asked in
+    let same : (apply s party client x).set ≡ s.set = apply_set s party client x in
+    let kept : IsKept (in_force sets s) (apply s party client x) = kept_apply (in_force sets s) s party client x (fits_at sets s party client asked) (g.sound s.set k.set) k.kept in
+    record { set = omega (arith, same, k.set); kept = subst (λ (n : ℕ). IsKept (set_at sets n) (apply s party client x)) (sym same) kept }
+kept_done sets count s party client (Reread n) below g k = record {
+  set = below;
+  kept = kept_anew (in_force sets s) (set_at sets n) (record s { set = n }) (g.sound n below) (g.same s.set k.set ∙ sym (g.same n below)) (record { within = k.kept.within; reserved = k.kept.reserved; single = k.kept.single });
+}
+
 -- one step keeps it
 pub kept_step : (sets : List Rules) (count : ℕ) (s : State) (request : Request) (moment : ℕ) → AreSets sets count → AsksForSet sets request → IsKeptBy sets s → IsKeptBy sets (step sets s request moment).1
 kept_step sets count s request moment g fits k =
-    let mid : State = settle (in_force sets s) s moment in
-    let settled : IsKeptBy sets mid = kept_settled sets count s moment g k in
-    let last : _ × _ = kept_served sets count mid request.party request.client request.kind (set_asked request.kind) fits g settled.set settled.kept in
-    record { set = last.0; kept = last.1 }
+    kept_done sets count (settle (in_force sets s) s moment) request.party request.client (task request.kind) fits g (kept_settled sets count s moment g k)

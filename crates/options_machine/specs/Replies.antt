@@ -1,10 +1,12 @@
-use Rattle.std.specs.Prelude.{◌≡◌, ℕ, ◌+◌, ◌≤◌, Bool, true, false, ◌&&◌, not, ◌↔◌, ◌⊎◌, nat_lt, List, Option, None, Some, length}
-use Rattle.std.specs.List.{position}
+use Rattle.std.specs.Prelude.{◌≡◌, ℕ, ◌+◌, ◌≤◌, Bool, true, false, not, ◌↔◌, ◌⊎◌, List, Option, None, Some}
+use Rattle.std.specs.List.{list_any, position}
 use Rattle.std.specs.Option.{option_map}
 use Rattle.options_machine.specs.declared.decision.Decision.{Decision}
 use Rattle.options_machine.specs.declared.decision.Decision.TheVariants.{Barred, Retake, Capped, Grant, Full}
 use Rattle.options_machine.specs.declared.decision.Place.{Place}
 use Rattle.options_machine.specs.declared.decision.Place.TheVariants.{Told, Untold, Waiting, Away}
+use Rattle.options_machine.specs.declared.reply.Ask.{Ask}
+use Rattle.options_machine.specs.declared.reply.Ask.TheVariants as ask
 use Rattle.options_machine.specs.declared.reply.Charge.{Charge}
 use Rattle.options_machine.specs.declared.reply.Charge.TheVariants.{Open}
 use Rattle.options_machine.specs.declared.reply.Entry.{Entry}
@@ -13,13 +15,15 @@ use Rattle.options_machine.specs.declared.reply.Kind.TheVariants as kind
 use Rattle.options_machine.specs.declared.reply.Reply.{Reply}
 use Rattle.options_machine.specs.declared.reply.Reply.TheVariants as reply
 use Rattle.options_machine.specs.declared.reply.Request.{Request}
+use Rattle.options_machine.specs.declared.reply.Task.{Task}
+use Rattle.options_machine.specs.declared.reply.Task.TheVariants.{Answer, Reread}
 use Rattle.options_machine.specs.declared.rows.Holder.{Holder}
 use Rattle.options_machine.specs.declared.rows.Queuer.{Queuer}
 use Rattle.options_machine.specs.Rules.{Rules}
-use Rattle.options_machine.specs.State.{State, charges, in_force, is_queuer, place}
-use Rattle.options_machine.specs.Decide.{decide}
+use Rattle.options_machine.specs.State.{State, charges, in_force, in_use, is_queuer, place}
+use Rattle.options_machine.specs.Decide.{decide, has_room}
 use Rattle.options_machine.specs.Settle.{settle}
-use Rattle.options_machine.specs.Step.{most_lingering, set_asked, step}
+use Rattle.options_machine.specs.Step.{lingers, set_asked, step, task}
 use Rattle.options_machine.specs.Run.{IsRun, after}
 use Rattle.options_machine.specs.Law.{AreSets}
 use Rattle.options_machine.specs.Own.{is_of_holding, is_of_queueing}
@@ -36,60 +40,55 @@ rules_found sets s moment = in_force sets (found sets s moment)
 abbrev pub reply_to : List Rules → State → Request → ℕ → Reply
 reply_to sets s request moment = (step sets s request moment).0
 
+-- whether a request asks a party's answer, of which this holds
+abbrev pub asks_such : (Ask → Bool) → Task → Bool
+asks_such p (Answer asked) = p asked
+asks_such p (Reread n) = false
+
+abbrev pub is_for_seat : Ask → Bool
+is_for_seat (ask.Seat may_wait) = true
+is_for_seat other = false
+
+abbrev pub is_giving_back : Ask → Bool
+is_giving_back ask.GiveBack = true
+is_giving_back other = false
+
+-- whether a party that waits, or wasn't told, is told by it how it stands
+abbrev pub is_for_standing : Ask → Bool
+is_for_standing (ask.Seat may_wait) = true
+is_for_standing ask.Beat = true
+is_for_standing ask.Look = true
+is_for_standing other = false
+
+abbrev pub is_of_own_seat : Ask → Bool
+is_of_own_seat ask.GiveBack = true
+is_of_own_seat ask.Beat = true
+is_of_own_seat ask.Look = true
+is_of_own_seat other = false
+
+abbrev pub is_of_itself : Ask → Bool
+is_of_itself ask.Count = false
+is_of_itself other = true
+
 -- whether a request is for a seat: Checkout and Queue
 abbrev pub asks_for_seat : Kind → Bool
-asks_for_seat kind.Checkout = true
-asks_for_seat kind.Queue = true
-asks_for_seat kind.Checkin = false
-asks_for_seat kind.Quit = false
-asks_for_seat kind.Beat = false
-asks_for_seat kind.Look = false
-asks_for_seat kind.Count = false
-asks_for_seat (kind.Reread n) = false
+asks_for_seat k = asks_such is_for_seat (task k)
 
 -- whether it gives back what the party has: Checkin and Quit
 abbrev pub gives_back : Kind → Bool
-gives_back kind.Checkin = true
-gives_back kind.Quit = true
-gives_back kind.Checkout = false
-gives_back kind.Queue = false
-gives_back kind.Beat = false
-gives_back kind.Look = false
-gives_back kind.Count = false
-gives_back (kind.Reread n) = false
+gives_back k = asks_such is_giving_back (task k)
 
 -- whether a party that waits, or wasn't told, is told by it how it stands: Checkout, Queue, Beat and Look
 abbrev pub asks_how_it_stands : Kind → Bool
-asks_how_it_stands kind.Checkout = true
-asks_how_it_stands kind.Queue = true
-asks_how_it_stands kind.Beat = true
-asks_how_it_stands kind.Look = true
-asks_how_it_stands kind.Checkin = false
-asks_how_it_stands kind.Quit = false
-asks_how_it_stands kind.Count = false
-asks_how_it_stands (kind.Reread n) = false
+asks_how_it_stands k = asks_such is_for_standing (task k)
 
 -- whether it is about a seat that the party has: Checkin, Quit, Beat and Look
 abbrev pub is_about_own_seat : Kind → Bool
-is_about_own_seat kind.Checkin = true
-is_about_own_seat kind.Quit = true
-is_about_own_seat kind.Beat = true
-is_about_own_seat kind.Look = true
-is_about_own_seat kind.Checkout = false
-is_about_own_seat kind.Queue = false
-is_about_own_seat kind.Count = false
-is_about_own_seat (kind.Reread n) = false
+is_about_own_seat k = asks_such is_of_own_seat (task k)
 
 -- whether it is about the party itself: all but Count and Reread
 abbrev pub is_about_itself : Kind → Bool
-is_about_itself kind.Checkout = true
-is_about_itself kind.Queue = true
-is_about_itself kind.Checkin = true
-is_about_itself kind.Quit = true
-is_about_itself kind.Beat = true
-is_about_itself kind.Look = true
-is_about_itself kind.Count = false
-is_about_itself (kind.Reread n) = false
+is_about_itself k = asks_such is_of_itself (task k)
 
 abbrev pub is_told : Place → Bool
 is_told (Told h) = true
@@ -143,6 +142,12 @@ abbrev pub NoSeatIsLeft : Type 0
 NoSeatIsLeft = (sets : List Rules) (s : State) (request : Request) (moment taken free : ℕ)
     → ((reply_to sets s request moment ≡ reply.NoSeat taken free) ↔ IsFull (rules_found sets s moment) (found sets s moment) request taken free)
     × (reply_to sets s request moment ≡ reply.NoSeat taken free → free ≤ taken)
+
+-- where that is said, each RESERVE line that speaks of the client is used up, or all licences are in use
+abbrev pub ReservesAreUsedUp : Type 0
+ReservesAreUsedUp = (sets : List Rules) (s : State) (request : Request) (moment taken free : ℕ) → reply_to sets s request moment ≡ reply.NoSeat taken free
+    → (list_any (has_room (rules_found sets s moment) (found sets s moment) request.client) (rules_found sets s moment).reserves ≡ false)
+    ⊎ ((rules_found sets s moment).count ≤ in_use (found sets s moment))
 
 -- a party that has nothing asks for a seat, and the rules grant one with this charge: cases 5 and 6
 pub record IsGranted (r : Rules) (s : State) (request : Request) (charge : Charge) : Type 0 where
@@ -204,10 +209,6 @@ NothingIsHeld = (sets : List Rules) (s : State) (request : Request) (moment : �
     → (reply_to sets s request moment ≡ reply.NotHeld)
     ↔ ((is_about_own_seat request.kind ≡ true) × (place (found sets s moment) request.party ≡ Away))
 
--- whether a seat that is given back lingers: there is a linger time, and room
-abbrev pub lingers : Rules → State → Bool
-lingers r s = nat_lt 0 r.linger && nat_lt (length s.lingering) most_lingering
-
 -- a told holder gives its seat back, which lingers until this moment
 pub record IsLeft (r : Rules) (s : State) (request : Request) (until : ℕ) : Type 0 where
   pub leaves : gives_back request.kind ≡ true
@@ -245,3 +246,13 @@ abbrev pub RepliesTell : Type 0
 RepliesTell = (sets : List Rules) (count : ℕ) (h : List Entry) (request : Request) (moment : ℕ) → AreSets sets count → IsRun sets h → set_asked request.kind ≡ None
     → (is_of_holding (reply_to sets (after sets h) request moment) ≡ is_told (place (step sets (after sets h) request moment).1 request.party))
     × (is_of_queueing (reply_to sets (after sets h) request moment) ≡ is_pending (place (step sets (after sets h) request moment).1 request.party))
+
+-- it is said that a rule set holds exactly where that set was asked for
+abbrev pub SetsAreReread : Type 0
+SetsAreReread = (sets : List Rules) (s : State) (request : Request) (moment set : ℕ)
+    → (reply_to sets s request moment ≡ reply.Reread set) ↔ (set_asked request.kind ≡ Some set)
+
+-- no reply says of its party both that it has a seat of which it was told, and that it waits or wasn't told
+abbrev pub OwnIsNotQueued : Type 0
+OwnIsNotQueued = (sets : List Rules) (s : State) (request : Request) (moment : ℕ)
+    → is_of_holding (reply_to sets s request moment) ≡ true → is_of_queueing (reply_to sets s request moment) ≡ false

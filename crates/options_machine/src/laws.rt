@@ -1,6 +1,7 @@
-ghost use Rattle.options_machine.specs.Law.{HoldersStandInOrder, OpenStaysFree, RunsAreLawful, SettlingServes};
-ghost use Rattle.options_machine.specs.Own.{OwnEntriesTell, QuitsLeave, RunsAgree};
-ghost use Rattle.options_machine.specs.Replies.{DenialsNameTheirLine, NoSeatIsLeft, NothingIsHeld, PlacesAreGivenBack, PositionsAreTold, RepliesTell, SeatsAreGranted, SeatsAreHeldOnce, SeatsAreRetaken, SeatsAreReturned, SeatsLinger};
+//! The laws of the machine, each the contract of a function that does nothing.
+ghost use Rattle.options_machine.specs.Law.{HoldersStandInOrder, MaxCountsLingering, MomentsAreBounded, OpenStaysFree, RunsAreLawful, SettlingServes, StepsUseTheirMoment};
+ghost use Rattle.options_machine.specs.Own.{OwnEntriesTell, QuitsLeave, RunsAgree, SeatsStay};
+ghost use Rattle.options_machine.specs.Replies.{DenialsNameTheirLine, NoSeatIsLeft, NothingIsHeld, OwnIsNotQueued, PlacesAreGivenBack, PositionsAreTold, RepliesTell, ReservesAreUsedUp, SeatsAreGranted, SeatsAreHeldOnce, SeatsAreRetaken, SeatsAreReturned, SeatsLinger, SetsAreReread};
 
 /// In every state of a run the seats in use are at most the count, each RESERVE line of the rule set that holds has at
 /// most its cut number of charges, and each party has at most one entry in holders and queue together.
@@ -60,6 +61,18 @@ pub fn no_seat_is_left()
     ensures { NoSeatIsLeft }
 {}
 
+/// Where it is said that there is no seat, each RESERVE line that speaks of the client is used up, or all licences are in
+/// use.
+pub fn reserves_are_used_up()
+    ensures { ReservesAreUsedUp }
+{}
+
+/// A MAX line counts seats that are held and seats that linger: where it speaks of a client, and at least its number of
+/// them are of clients of whom it speaks, the client is granted no new seat.
+pub fn max_counts_lingering()
+    ensures { MaxCountsLingering }
+{}
+
 /// A seat is granted exactly where a party that has nothing asks for one and the rules grant it with this charge, or where
 /// a party that the queue served asks how it stands and its seat has this charge.
 pub fn seats_are_granted()
@@ -103,4 +116,30 @@ pub fn seats_linger()
 /// it back.
 pub fn seats_are_returned()
     ensures { SeatsAreReturned }
+{}
+
+/// A reply of holding that is neither Granted nor Retaken comes only to a party whose standing reply was of holding.
+pub fn seats_stay()
+    ensures { SeatsStay }
+{}
+
+/// It is replied that a rule set holds exactly where the request asked for that set.
+pub fn sets_are_reread()
+    ensures { SetsAreReread }
+{}
+
+/// No reply is of holding and of queueing at once.
+pub fn own_is_not_queued()
+    ensures { OwnIsNotQueued }
+{}
+
+/// A step at the handed moment is the step at the moment that it used: the later of the state's and the handed one, which
+/// counts as 2^40 - 1 at most. The state after it has this moment.
+pub fn steps_use_their_moment()
+    ensures { StepsUseTheirMoment }
+{}
+
+/// The moment of every state of a run is below 2^40.
+pub fn moments_are_bounded()
+    ensures { MomentsAreBounded }
 {}

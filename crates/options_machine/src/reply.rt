@@ -1,6 +1,7 @@
+//! What is asked and what is answered.
 ghost use Rattle.std.specs.Prelude.{◌≡◌};
 ghost use Rattle.options_machine.specs.Own.{is_of_holding, is_of_queueing};
-ghost use Rattle.options_machine.specs.Step.{set_asked};
+ghost use Rattle.options_machine.specs.Step.{set_asked, task};
 
 use lic_types::Client;
 
@@ -25,7 +26,46 @@ pub enum Kind {
     Reread(u32),
 }
 
+/// What a party asks of the state that a desk keeps.
+#[derive(Clone, Copy, Debug, PartialEq, Eq)]
+pub enum Ask {
+    /// A seat; and where there is none, a place in the queue if it may wait.
+    Seat(bool),
+    /// To give back what it has.
+    GiveBack,
+    /// To be heard.
+    Beat,
+    /// Whether it has a seat.
+    Look,
+    /// The numbers of the desk.
+    Count,
+}
+
+/// What a desk does for a request.
+#[derive(Clone, Copy, Debug, PartialEq, Eq)]
+pub enum Task {
+    /// It answers a party, and keeps its rules.
+    Answer(Ask),
+    /// It makes the rule set of this number hold.
+    Reread(u32),
+}
+
 impl Kind {
+    /// What it makes a desk do.
+    pub fn task(&self) -> Task
+        ensures { result ≡ task self.now }
+    {
+        match self {
+            Kind::Checkout => Task::Answer(Ask::Seat(false)),
+            Kind::Queue => Task::Answer(Ask::Seat(true)),
+            Kind::Checkin | Kind::Quit => Task::Answer(Ask::GiveBack),
+            Kind::Beat => Task::Answer(Ask::Beat),
+            Kind::Look => Task::Answer(Ask::Look),
+            Kind::Count => Task::Answer(Ask::Count),
+            Kind::Reread(set) => Task::Reread(*set),
+        }
+    }
+
     /// The number of the rule set that it asks for, from 0; None exactly where it asks for none.
     pub fn set_asked(&self) -> Option<u32>
         ensures { result ≡ set_asked self.now }

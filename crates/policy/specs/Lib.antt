@@ -1,4 +1,4 @@
+pub mod Books
 pub mod Kept
-pub mod Pools
-pub mod Words
 pub mod Sound
+pub mod Pools

@@ -1,19 +1,26 @@
-//! The rules of a pool, the options machine kept as lists, and the words of its replies.
+//! The rules of a pool, made of an options file (`DeskRules`); what a book of a pool's state must be able to tell and to
+//! change (`Rows`), and the answers of the options machine over any such book (`step`, `glance`); and the plain book, which
+//! keeps the state as lists (`PlainBook`). The words of replies and the sides of a desk are passed on from the crates below.
 #![tactic(auto)]
 
+mod anew;
 mod answers;
 mod lists;
+mod members;
 mod plain;
+mod rows;
 mod rules;
 mod selection;
-mod words;
 
+pub use answers::{glance, step};
+pub use counter::{Asked, Counter, Glance};
 pub use options_machine::{
     Charge, Cut, Entry, Holder, Kind, Limit, Lingerer, Queuer, Reply, Request, matches,
 };
 pub use plain::PlainBook;
+pub use reply_words::reply_words;
+pub use rows::Rows;
 pub use rules::{DeskRules, are_sets, cuts_at};
-pub use words::reply_words;
 
 #[cfg(test)]
 mod tests;

@@ -1,3 +1,4 @@
+//! The lists of the plain book, what the rules say by them, and settling.
 ghost use Rattle.std.specs.Prelude.{◌≡◌, ℕ, ◌+◌, ◌<◌, ◌≤◌, ◌^◌, count_by, not, filter, find, length, nat_lt, vec_capacity};
 ghost use Rattle.std.specs.List.{position, position_or_len};
 ghost use Rattle.std.specs.Option.{option_map};
@@ -5,11 +6,14 @@ ghost use Rattle.options_machine.specs.Rules.{applies};
 ghost use Rattle.policy.specs.Kept.{HasSameRoom, OffersNext, front_of, state_of};
 ghost use Rattle.options_machine.specs.State.{charges, in_use, is_holder, is_queuer, place, same_charge};
 ghost use Rattle.options_machine.specs.Decide.{decide, has_room, is_left_by, is_reached, matched, number_of_limit, reached, reserved, retaken};
-ghost use Rattle.options_machine.specs.Settle.{in_time, offered, reseated, seated, serve, settle, timely, with_holder, without_first};
+ghost use Rattle.options_machine.specs.Settle.{in_time, serve, settle, timely, with_holder, with_offer, with_seat, with_seat_again, without_first};
 
 use crate::rules::DeskRules;
 use lic_types::{Client, RuleLine};
 use options_machine::{Charge, Decision, Holder, Limit, Lingerer, Queuer, applies};
+
+/// At most so many entries linger.
+pub(crate) const MOST_LINGERING: usize = 4096;
 
 /// Moments are below this.
 const MOMENTS: u64 = 1 << 40;
@@ -24,6 +28,7 @@ pub struct Lists {
     pub set: u32,
 }
 
+/// How many holders have the charge.
 pub(crate) fn holders_charged(holders: &[Holder], charge: &Charge) -> usize
     ensures count { result ≡ count_by (λ h. same_charge h.charge charge.now) holders.now }
     ensures few { result ≤ length holders.now }
@@ -31,6 +36,7 @@ pub(crate) fn holders_charged(holders: &[Holder], charge: &Charge) -> usize
     holders.iter().filter(|h| h.charge == *charge).count()
 }
 
+/// How many lingering entries have the charge.
 pub(crate) fn lingering_charged(lingering: &[Lingerer], charge: &Charge) -> usize
     ensures count { result ≡ count_by (λ l. same_charge l.charge charge.now) lingering.now }
     ensures few { result ≤ length lingering.now }
@@ -47,6 +53,7 @@ pub(crate) fn charges(lists: &Lists, charge: &Charge) -> usize
         + lingering_charged(lists.lingering.as_slice(), charge)
 }
 
+/// How many holders have clients that the line speaks of.
 fn holders_matched(rules: &DeskRules, holders: &[Holder], line: &RuleLine) -> usize
     ensures count { result ≡ count_by (λ h. applies rules.now.groups h.client line.now) holders.now }
     ensures few { result ≤ length holders.now }
@@ -57,6 +64,7 @@ fn holders_matched(rules: &DeskRules, holders: &[Holder], line: &RuleLine) -> us
         .count()
 }
 
+/// How many lingering entries have clients that the line speaks of.
 fn lingering_matched(rules: &DeskRules, lingering: &[Lingerer], line: &RuleLine) -> usize
     ensures count { result ≡ count_by (λ l. applies rules.now.groups l.client line.now) lingering.now }
     ensures few { result ≤ length lingering.now }
@@ -86,6 +94,8 @@ fn retaken(lists: &Lists, client: &Client) -> Option<Charge>
         .map(|l| l.charge)
 }
 
+/// Whether a MAX line speaks of the client, and at least its number of seats, held or lingering, are of clients of whom it
+/// speaks.
 fn is_reached(rules: &DeskRules, lists: &Lists, client: &Client, limit: &Limit) -> bool
     ensures { result ≡ is_reached rules.now (state_of lists.now) client.now limit.now }
 {
@@ -104,6 +114,7 @@ fn reached(rules: &DeskRules, lists: &Lists, client: &Client) -> Option<u32>
         .map(|limit| limit.line.line)
 }
 
+/// Whether a RESERVE line speaks of the client and has fewer charges than its cut number.
 fn has_room(rules: &DeskRules, lists: &Lists, client: &Client, limit: &Limit) -> bool
     ensures { result ≡ has_room rules.now (state_of lists.now) client.now limit.now }
 {
@@ -111,6 +122,7 @@ fn has_room(rules: &DeskRules, lists: &Lists, client: &Client, limit: &Limit) ->
         && charges(lists, &Charge::Reserve(limit.line.line)) < limit.number as usize
 }
 
+/// The first RESERVE line that speaks of the client and has room.
 fn first_with_room(rules: &DeskRules, lists: &Lists, client: &Client) -> Option<u32>
     ensures { result ≡ option_map number_of_limit (find (has_room rules.now (state_of lists.now) client.now) rules.now.reserves) }
 {
@@ -158,6 +170,7 @@ pub(crate) fn decide(rules: &DeskRules, lists: &Lists, client: &Client) -> Decis
     }
 }
 
+/// Takes the seats of holders that were not heard for the whole timeout, in seconds. They do not linger.
 fn drop_silent(holders: &mut Vec<Holder>, timeout: Option<u64>, now: u64)
     ensures items { holders.new.items ≡ in_time timeout now holders.old.items }
     ensures capacity { vec_capacity holders.new ≡ vec_capacity holders.old }
@@ -167,6 +180,7 @@ fn drop_silent(holders: &mut Vec<Holder>, timeout: Option<u64>, now: u64)
     }
 }
 
+/// Lets go what lingered until now.
 fn drop_lingering(lingering: &mut Vec<Lingerer>, now: u64)
     ensures items { lingering.new.items ≡ filter (λ l. nat_lt now l.until) lingering.old.items }
     ensures capacity { vec_capacity lingering.new ≡ vec_capacity lingering.old }
@@ -185,6 +199,7 @@ fn let_go(rules: &DeskRules, lists: &mut Lists, moment: u64)
     drop_lingering(&mut lists.lingering, now);
 }
 
+/// Where the first holder stands whose party comes after this one.
 fn first_after(holders: &[Holder], party: u32) -> Option<usize>
     ensures { result ≡ position (λ h. nat_lt party h.party) holders.now }
 {
@@ -215,12 +230,14 @@ fn put_holder(holders: &mut Vec<Holder>, holder: Holder)
     }
 }
 
+/// Where the first entry stands that lingers for the client.
 fn first_left_by(lingering: &[Lingerer], client: &Client) -> Option<usize>
     ensures { result ≡ position (is_left_by client.now) lingering.now }
 {
     lingering.iter().position(|l| l.client == *client)
 }
 
+/// Takes out the first entry that lingers for the client.
 fn take_lingering(lingering: &mut Vec<Lingerer>, client: &Client)
     ensures items { lingering.new.items ≡ without_first (is_left_by client.now) lingering.old.items }
     ensures capacity { vec_capacity lingering.new ≡ vec_capacity lingering.old }
@@ -233,7 +250,7 @@ fn take_lingering(lingering: &mut Vec<Lingerer>, client: &Client)
 /// Gives the party a seat with this charge.
 pub(crate) fn seat(lists: &mut Lists, party: u32, client: &Client, charge: Charge, told: bool)
     requires { length lists.old.holders.items < vec_capacity lists.old.holders }
-    ensures state { state_of lists.new ≡ seated (state_of lists.old) party client.now charge told }
+    ensures state { state_of lists.new ≡ with_seat (state_of lists.old) party client.now charge told }
     ensures room { HasSameRoom lists.old lists.new }
 {
     let beat = lists.moment;
@@ -252,7 +269,7 @@ pub(crate) fn seat(lists: &mut Lists, party: u32, client: &Client, charge: Charg
 /// Gives the party the seat that lingers for the client.
 pub(crate) fn seat_again(lists: &mut Lists, party: u32, client: &Client, charge: Charge, told: bool)
     requires { length lists.old.holders.items < vec_capacity lists.old.holders }
-    ensures state { state_of lists.new ≡ reseated (state_of lists.old) party client.now charge told }
+    ensures state { state_of lists.new ≡ with_seat_again (state_of lists.old) party client.now charge told }
     ensures room { HasSameRoom lists.old lists.new }
 {
     take_lingering(&mut lists.lingering, client);

@@ -1,15 +1,21 @@
+//! The options machine kept as lists.
+ghost use Rattle.counter.specs.Glances.{numbers_of};
 ghost use Rattle.std.specs.Prelude.{◌≡◌, ℕ, ◌+◌, ◌<◌, ◌≤◌, ◌^◌, ◌∷◌, [], ◌↔◌, IfOk, IsTrue, length};
-ghost use Rattle.policy.specs.Kept.{Book};
+ghost use Rattle.policy.specs.Books.{Book, rules_now};
 ghost use Rattle.options_machine.specs.Law.{AreSets, IsLawful};
 ghost use Rattle.options_machine.specs.Run.{AsksForSet, IsBelow};
-ghost use Rattle.options_machine.specs.State.{opening, in_force};
+ghost use Rattle.options_machine.specs.State.{opening, in_force, set_at};
 ghost use Rattle.options_machine.specs.Step.{set_asked, step};
 
-use crate::answers::{MOST_LINGERING, answer, charge_anew};
-use crate::lists::{Lists, settle};
+use crate::anew::charge_anew;
+use crate::answers;
+use crate::lists::{Lists, MOST_LINGERING, charges, decide, seat, seat_again, settle};
+use crate::members::{drop_holder, drop_queuer, entry_left, linger, place, position_of, tell};
+use crate::rows::Rows;
 use crate::rules::DeskRules;
-use lic_types::NoMemory;
-use options_machine::{Kind, Reply, Request};
+use counter::Glance;
+use lic_types::{Client, NoMemory};
+use options_machine::{Charge, Decision, Holder, Kind, Lingerer, Place, Queuer, Reply, Request};
 use std::alloc::Global;
 use std::marker::Model;
 
@@ -23,7 +29,8 @@ pub struct PlainBook {
 }
 
 impl Model for PlainBook {
-    ghost use Rattle.policy.specs.Kept.{Book, IsBookKept, state_of};
+    ghost use Rattle.policy.specs.Books.{Book};
+    ghost use Rattle.policy.specs.Kept.{IsBookKept, state_of};
 
     ghost Value = { Book };
 
@@ -83,6 +90,13 @@ impl PlainBook {
         }
     }
 
+    /// The numbers of its state, as a Glance of so many entries.
+    pub fn glance(&self, front: u64) -> Glance
+        ensures { result ≡ numbers_of self.now.sets front self.now.state }
+    {
+        answers::glance(self, front)
+    }
+
     /// One step of the machine at a moment, in seconds since 1970-01-01 UTC: what is over goes, the queue is served, and the
     /// request is answered. The number is the moment that the step used: the later of the handed one, which counts as
     /// 2^40 - 1 at most, and the last one used. It takes no memory.
@@ -92,23 +106,102 @@ impl PlainBook {
         ensures step { (result.0, self.new.state) ≡ step self.old.sets self.old.state request.now moment }
         ensures moment { result.1 ≡ self.new.state.now }
         ensures same { (self.new.sets ≡ self.old.sets) × (self.new.parties ≡ self.old.parties) }
+        ensures within { result.1 < 2 ^ 40 }
+        ensures lawful { IsLawful self.new.sets (set_at self.new.sets 0).count self.new.state }
     {
+        let said = answers::step(self, request, moment);
+        let _ = &self.sets;
+        said
+    }
+
+    /// The rules that hold.
+    fn rules(&self) -> &DeskRules
+        ensures { result.now ≡ rules_now self.now }
+    {
+        &self.sets[self.lists.set as usize]
+    }
+}
+
+impl Rows for PlainBook {
+    ghost seen = { λ b. b };
+
+    fn settle(&mut self, moment: u64) {
         settle(&self.sets[self.lists.set as usize], &mut self.lists, moment);
-        let now = self.lists.moment;
-        let reply = match request.kind {
-            Kind::Reread(n) => {
-                self.lists.set = n;
-                charge_anew(&self.sets[n as usize], &mut self.lists);
-                Reply::Reread(n)
-            }
-            _ => answer(
-                &self.sets[self.lists.set as usize],
-                &mut self.lists,
-                request.party,
-                &request.client,
-                &request.kind,
-            ),
-        };
-        (reply, now)
+    }
+
+    fn now(&self) -> u64 {
+        self.lists.moment
+    }
+
+    fn place(&self, party: u32) -> Place {
+        place(&self.lists, party)
+    }
+
+    fn decide(&self, client: &Client) -> Decision {
+        decide(self.rules(), &self.lists, client)
+    }
+
+    fn entry_left(&self, holder: &Holder) -> Option<Lingerer> {
+        entry_left(self.rules(), &self.lists, holder)
+    }
+
+    fn held(&self) -> u32 {
+        self.lists.holders.len() as u32
+    }
+
+    fn lingering(&self) -> u32 {
+        self.lists.lingering.len() as u32
+    }
+
+    fn queued(&self) -> u32 {
+        self.lists.queue.len() as u32
+    }
+
+    fn taken(&self) -> u32 {
+        charges(&self.lists, &Charge::Open) as u32
+    }
+
+    fn free(&self) -> u32 {
+        self.rules().free()
+    }
+
+    fn position(&self, party: u32) -> u32 {
+        position_of(&self.lists, party)
+    }
+
+    fn tell(&mut self, party: u32) {
+        tell(&mut self.lists, party);
+    }
+
+    fn release(&mut self, party: u32) {
+        drop_holder(&mut self.lists.holders, party);
+    }
+
+    fn linger(&mut self, party: u32, entry: &Lingerer) {
+        linger(&mut self.lists, party, entry);
+    }
+
+    fn unqueue(&mut self, party: u32) {
+        drop_queuer(&mut self.lists.queue, party);
+    }
+
+    fn seat(&mut self, party: u32, client: &Client, charge: Charge) {
+        seat(&mut self.lists, party, client, charge, true);
+    }
+
+    fn reseat(&mut self, party: u32, client: &Client, charge: Charge) {
+        seat_again(&mut self.lists, party, client, charge, true);
+    }
+
+    fn join(&mut self, party: u32, client: &Client) {
+        self.lists.queue.push_reserved(Queuer {
+            party,
+            client: *client,
+        });
+    }
+
+    fn reread(&mut self, set: u32) {
+        self.lists.set = set;
+        charge_anew(&self.sets[set as usize], &mut self.lists);
     }
 }
