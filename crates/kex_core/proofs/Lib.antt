@@ -13,4 +13,5 @@ pub mod Worlds
 pub mod Openings
 pub mod Costs
 pub mod Exports
+pub mod Feeders
 pub mod Accesses

@@ -11,7 +11,6 @@
 
 mod fault;
 mod laws;
-mod memory;
 mod net;
 mod place;
 mod validity;
@@ -21,8 +20,8 @@ pub use fault::NetFault;
 pub use laws::{
     accesses_are_bounded, moves_keep_the_invariant, paths_follow_next, safe_on_every_schedule,
 };
-pub use memory::NoMemory;
 pub use net::Net;
+pub use no_memory::NoMemory;
 pub use place::{Access, Place};
 pub use world::World;
 

@@ -1,14 +1,14 @@
-ghost use Rattle.std.specs.Prelude.{◌⊎◌, false, ◌≡◌, ◌≢◌, ◌+◌, ◌<◌, ◌≤◌, length, true, MatchOption, IsOk, IfErr, IfOk, ◌↔◌, map};
-ghost use Rattle.kex_core.specs.Nets.{on_path, before};
+ghost use Rattle.std.specs.Prelude.{◌⊎◌, false, ◌≡◌, ◌≢◌, ◌+◌, ◌<◌, ◌≤◌, length, true, MatchOption, IsOk, IfErr, IfOk, IfSome, ◌↔◌, map};
+ghost use Rattle.kex_core.specs.Nets.{on_path, before, starts, feeds};
 ghost use Rattle.kex_core.specs.Shapes.{Sheet, sheet, plan, IsNet};
 ghost use Rattle.kex_core.specs.Faults.{Refused};
 ghost use Rattle.kex_core.specs.Worlds.{due, passed, back, after};
 ghost use Rattle.kex_core.specs.Laws.{Placed};
 
 use crate::fault::NetFault;
-use crate::memory::NoMemory;
 use crate::place::Place;
 use crate::validity::fault_in;
+use no_memory::NoMemory;
 use std::alloc::Global;
 use std::marker::Model;
 
@@ -168,8 +168,52 @@ impl Net {
         None
     }
 
+    // how many may come to j
+    fn room(&self, j: u32) -> u64
+        requires { j ≤ (plan self.now).stages }
+        ensures { starts (plan self.now) j + feeds (plan self.now) j ≤ result }
+    {
+        self.laws();
+        if j == self.stages() {
+            u64::from(self.width())
+        } else {
+            u64::from(self.cap(j)) + 1
+        }
+    }
+
+    // the stage in front of j, where as many come from there as may come to j, so that nobody else does
+    fn sole_feeder(&self, j: u32) -> Option<u32>
+        requires { j ≤ (plan self.now).stages }
+        ensures { IfSome result (λ i. (i < (plan self.now).stages) × ((plan self.now).next i ≡ j) × (starts (plan self.now) j + feeds (plan self.now) j ≤ (plan self.now).cap i)) }
+    {
+        if j == 0 {
+            return None;
+        }
+        let room = self.room(j);
+        if self.next_or_exit(j - 1) == j && u64::from(self.cap(j - 1)) >= room {
+            Some(j - 1)
+        } else {
+            None
+        }
+    }
+
     // the stage before j on p's path, where j isn't p's start
     fn behind(&self, p: u32, j: u32) -> u32
+        requires party { p < self.now.parties }
+        requires stage { j ≤ (plan self.now).stages }
+        requires path { on_path (plan self.now) p j ≡ true }
+        requires later { (plan self.now).start p ≢ j }
+        ensures { result ≡ before (plan self.now) p j }
+    {
+        self.laws();
+        if let Some(i) = self.sole_feeder(j) {
+            return i;
+        }
+        self.walked(p, j)
+    }
+
+    // the same, by going along the path
+    fn walked(&self, p: u32, j: u32) -> u32
         requires party { p < self.now.parties }
         requires stage { j ≤ (plan self.now).stages }
         requires path { on_path (plan self.now) p j ≡ true }

@@ -4,9 +4,9 @@ ghost use Rattle.kex_core.specs.Shapes.{plan, State, machine_of, machine, number
 ghost use Rattle.kex_core.specs.Laws.{Kept, Safe};
 ghost use Rattle.kex_core.specs.Worlds.{due, found, x_after, q_after, bit_after, card_after, move, opening};
 
-use crate::memory::NoMemory;
 use crate::net::Net;
 use crate::place::{Access, Place};
+use no_memory::NoMemory;
 use std::alloc::Global;
 use std::marker::Model;
 

@@ -96,7 +96,7 @@ module _ (me : Self) (is : me.0.role ≡ Party (number_of me.0.role)) where
         (card_out_read k named s id r at c c_at c_uses).0,
         (
           told s id v r at is (Named k) due_is n (r.card_is k (low me is s id r at (Named k) due_is).0),
-          (c, c_number ∙ sym (ap name_at named), ap (λ (y : ℕ). let h : List (ℕ × Option Card) = (y, Some c) ∷ me.1 in (z, h)) (sym (ap name_at named))),
+          (c, c_number ∙ sym (ap name_at named), ap (λ (y : ℕ). let h : List (ℕ × Option Card) = (y, Some c) ∷ me.1 in (z, h)) (sym (ap name_at named)), c_uses ∙ ap (λ (y : ℕ). total (took_of y) s.views % 2 ^ 64) (sym (ap name_at named))),
         ),
       )
 

@@ -1,29 +1,53 @@
 -- The passes of a table are joined into one seat.
-use Rattle.std.proofs.Common.{◌≡◌, ℕ, ◌<◌, List, [], ◌∷◌, sym, ap, ◌∙◌, subst, arith, Option}
+use Rattle.std.proofs.Common.{◌≡◌, ℕ, suc, ◌+◌, ◌<◌, List, [], ◌∷◌, ◌++◌, length, refl, sym, ap, ◌∙◌, subst, arith}
 use Rattle.atomic_table.specs.Seated.{TableId}
 use Rattle.atomic_table.specs.Table.{Joins}
 use Rattle.kex_core.specs.Shapes.{Sheet}
-use Rattle.kex_words.specs.declared.card.Card.{Card}
 use Rattle.kex_words.specs.declared.view.Role.TheVariants.{Party}
-use Rattle.kex_words.specs.Passes.{TableNet, Pass, IsSetUp}
+use Rattle.kex_words.specs.Passes.{TableNet, Pass, TakenIn, IsSetUp, times}
 use Rattle.kex_words.specs.Rule.{number_of, IsReadOff}
-use Rattle.kex_words.specs.Steps.{Self, gathered, both, spent, IsAtRest}
+use Rattle.kex_words.specs.Steps.{Self, both, spent, taken_in, IsTakenIn, IsAtRest, numbers_of}
+use Rattle.kex_words.proofs.Members.{times_append}
 use Rattle.kex_words.proofs.Join.{joins}
 
-pub joins_at : (id : TableId) (told net : Sheet) (self : TableNet) (seat_id other_id : TableId) (m w : Self) (seat other : ℕ) (first p : Pass) (done : List Pass)
-    → IsSetUp id told net → record { id = id; net = net } ≡ self → seat_id ≡ self.id → other_id ≡ p.table.id → p.table ≡ self → first.table ≡ self → m ≡ (gathered first done, []) → IsAtRest p w
+pub joins_at : (id : TableId) (told net : Sheet) (self : TableNet) (seat_id other_id : TableId) (m w : Self) (seat other : ℕ) (g : TakenIn) (p : Pass)
+    → IsSetUp id told net → record { id = id; net = net } ≡ self → taken_in seat_id m.0 ≡ g → IsTakenIn m → g.table ≡ self → other_id ≡ p.table.id → p.table ≡ self → IsAtRest p w
     → (seat_id ≡ id) × (other_id ≡ id) × (w.1 ≡ []) × (0 < id.words) × Joins (IsReadOff told) seat m.0 other w.0 (both m.0 w.0) spent
-joins_at id told net self seat_id other_id m w seat other first p done up self_is same same' own own_first m_is rest =
-    let id_is : self.id ≡ id = sym (ap (λ (x : TableNet). x.id) self_is) in
-    let net_is : m.0.net ≡ told = ap (λ (z : Self). z.0.net) m_is ∙ (ap (λ (x : TableNet). x.net) (own_first ∙ sym self_is) ∙ sym up.told_is) in
-    let m_role : m.0.role ≡ Party first.number = ap (λ (z : Self). z.0.role) m_is in let w_role : w.0.role ≡ Party p.number = ap (λ (z : Self). z.0.role) rest.sits in (
-      same ∙ id_is,
-      same' ∙ (ap (λ (x : TableNet). x.id) own ∙ id_is),
+joins_at id told net self seat_id other_id m w seat other g p up self_is g_is t own same' own' rest =
+    let table_is : record { id = seat_id; net = m.0.net } ≡ record { id = id; net = net } = ap (λ (x : TakenIn). x.table) g_is ∙ (own ∙ sym self_is) in
+    let net_is : m.0.net ≡ told = ap (λ (x : TableNet). x.net) table_is ∙ sym up.told_is in
+    let w_role : w.0.role ≡ Party p.number = ap (λ (z : Self). z.0.role) rest.sits in (
+      ap (λ (x : TableNet). x.id) table_is,
+      same' ∙ (ap (λ (x : TableNet). x.id) (own' ∙ sym self_is)),
       ap (λ (z : Self). z.1) rest.sits,
       (let a = up.words in let b = up.is_net.sized.wide in omega arith),
       subst (λ (x : Sheet). Joins (IsReadOff x) seat m.0 other w.0 (both m.0 w.0) spent) net_is
-          (joins seat other m.0 w.0 (m_role ∙ ap Party (sym (ap number_of m_role))) (w_role ∙ ap Party (sym (ap number_of w_role))) (ap (λ (z : Self). z.0.place) rest.sits ∙ rest.rests)),
+          (joins seat other m.0 w.0 t.role_is (w_role ∙ ap Party (sym (ap number_of w_role))) (ap (λ (z : Self). z.0.place) rest.sits ∙ rest.rests)),
     )
 
-pub joined_on : (m m' w : Self) (first p : Pass) (done : List Pass) → m ≡ (gathered first done, []) → IsAtRest p w → m' ≡ (both m.0 w.0, m.1) → m' ≡ (gathered first (p ∷ done), [])
-joined_on m m' w first p done e rest f = f ∙ (λ i. let h : List (ℕ × Option Card) = (e i).1 in (both (e i).0 (rest.sits i).0, h))
+pub count_numbers : (l : List Pass) → length (numbers_of l) ≡ length l
+count_numbers [] = refl
+count_numbers (p ∷ ps) = ap suc (count_numbers ps)
+
+-- the seat of one pass
+pub begun : (id : TableId) (p : Pass) (m : Self) → IsAtRest p m → IsTakenIn m
+begun id p m rest = record {
+  alone = ap (λ (z : Self). z.1) rest.sits;
+  role_is = let r : m.0.role ≡ Party p.number = ap (λ (z : Self). z.0.role) rest.sits in r ∙ ap Party (sym (ap number_of r));
+  rests = ap (λ (z : Self). z.0.place) rest.sits ∙ rest.rests;
+}
+
+pub begun_as : (id : TableId) (p : Pass) (m : Self) → id ≡ p.table.id → IsAtRest p m → taken_in id m.0 ≡ record { table = p.table; numbers = p.number ∷ []; got = p.got }
+begun_as id p m own rest = λ i. taken_in (own i) (rest.sits i).0
+
+-- and of one with one more
+pub joined_on : (m m' w : Self) (p : Pass) → IsTakenIn m → IsAtRest p w → m' ≡ (both m.0 w.0, m.1) → IsTakenIn m'
+joined_on m m' w p t rest e = subst IsTakenIn (sym e) (record { alone = t.alone; role_is = t.role_is; rests = t.rests })
+
+pub joined_as : (id id' : TableId) (m m' w : Self) (g : TakenIn) (p : Pass) → taken_in id m.0 ≡ g → id' ≡ id → IsAtRest p w → m' ≡ (both m.0 w.0, m.1)
+    → taken_in id' m'.0 ≡ record { table = g.table; numbers = p.number ∷ g.numbers; got = g.got ++ p.got }
+joined_as id id' m m' w g p g_is same rest e =
+    (λ i. taken_in (same i) (e i).0) ∙ ((λ i. taken_in id (both m.0 (rest.sits i).0)) ∙ (λ i. record { table = (g_is i).table; numbers = p.number ∷ (g_is i).numbers; got = (g_is i).got ++ p.got }))
+
+pub times_after : (s : ℕ) (l m : List ℕ) → times s (l ++ m) ≡ times s m + times s l
+times_after s l m = let a = times_append s l m in omega arith

@@ -88,27 +88,29 @@ module _ (s : St) (id : ℕ) (v : View) (r : IsReadOff v.net s) (at : get_elem? 
 
   module _ (n : ℕ) (found_is : n ≡ found r.world p d) where
     -- the new place
-    place_is' : world'.place p ≡ (stepped (standing v) n).place
+    pub place_is' : world'.place p ≡ (stepped (standing v) n).place
     place_is' = put_here r.world.place p (after net p d (found r.world p d)) ∙ (λ i. after net p (sym is_due i) (sym found_is i))
 
-    placed' : Placed net p (stepped (standing v) n).place
+    pub placed' : Placed net p (stepped (standing v) n).place
     placed' = subst (Placed net p) place_is' (kept'.placed p mine)
 
-    firsts' : (stepped (standing v) n).firsts ≤ cost net p (stepped (standing v) n).place
+    pub firsts' : (stepped (standing v) n).firsts ≤ cost net p (stepped (standing v) n).place
     firsts' = ⊎_elim
         (λ (o : after net p (due net p v.place) n ≡ Out). let z : (stepped (standing v) n).firsts ≡ 0 = ap (λ (q : Place). kept_at q (v.firsts + 1 - is_spin (due net p v.place))) o in omega arith)
         (λ (b : v.firsts + 1 ≤ cost net p (after net p (due net p v.place) n) + is_spin (due net p v.place)). let k = kept_at_le (after net p (due net p v.place) n) (v.firsts + 1 - is_spin (due net p v.place)) in omega arith)
         (firsts_step net r.is_net.valid r.world r.kept p mine (due net p v.place) (ap (due net p) known.place_is) v.firsts n (never_out net p v.place)
         (let f = known.firsts in let e : cost net p (r.world.place p) ≡ cost net p v.place = ap (cost net p) known.place_is in omega arith))
 
-    pub told : Told (standing v) n
+    abbrev pub told : Told v n
     told = record {
-      world = r.world;
-      kept = r.kept;
+      state = s;
+      ruled = r;
+      seat = id;
+      sits = at;
+      inside = mine;
       stood = known.place_is;
       found_is = found_is ∙ ap (found r.world p) (sym is_due);
       placed = placed';
-      inside = mine;
       bounded = let f = firsts' in let b = cost_bound net r.is_net.valid p mine (stepped (standing v) n).place placed' in omega arith;
     }
 

@@ -10,8 +10,11 @@ pub mod Start
 pub mod Join
 pub mod Gathers
 pub mod Close
+pub mod Uses
 pub mod Collects
 pub mod Entries
 pub mod Rules
 pub mod Hands
+pub mod Made
+pub mod Raises
 pub mod Seats

@@ -95,8 +95,8 @@ module _ {X : Type 0} where
   pub front_of : (l m : List X) (o : Option X) (x : X) → l ≡ m ++ option_to_list o → o ≡ Some x → l ≡ m ++ x ∷ []
   front_of l m o x e is = e ∙ ap (λ (z : Option X). m ++ option_to_list z) is
 
-  pub moved_over : (zs a b done : List X) (w first : X) → zs ≡ a ++ (done ++ first ∷ []) → a ≡ b ++ w ∷ [] → zs ≡ b ++ ((w ∷ done) ++ first ∷ [])
-  moved_over zs a b done w first is e = is ∙ (ap (λ l. l ++ (done ++ first ∷ [])) e ∙ append_assoc b (w ∷ []) (done ++ first ∷ []))
+  pub moved_on : (zs a b done : List X) (w : X) → zs ≡ a ++ done → a ≡ b ++ w ∷ [] → zs ≡ b ++ (w ∷ done)
+  moved_on zs a b done w is e = is ∙ (ap (λ l. l ++ done) e ∙ append_assoc b (w ∷ []) done)
 
   pub got_front : (l m : List X) (i : ℕ) → i < length l → slice_get (l ++ m) i ≡ slice_get l i
   got_front [] m i lt = absurd (omega arith)

@@ -1,21 +1,15 @@
 -- One access as a change of the table's state, whoever makes it and whatever the others do.
-use Rattle.std.specs.Prelude.{◌≡◌, ℕ, ◌+◌, ◌-◌, ◌*◌, ◌%◌, ◌^◌, List, length, slice_index, slice_set, Option, Some}
+use Rattle.std.specs.Prelude.{◌≡◌, ℕ, ◌+◌, ◌-◌, ◌*◌, ◌%◌, ◌^◌, List, length, slice_index, slice_set, Some}
 use mathlib.Core.Option.{none, some}
 use lib.ListN.{get_elem?}
-use Rattle.atomic_table.specs.Table.{State}
 use Rattle.kex_core.specs.declared.place.Place.{Place}
 use Rattle.kex_core.specs.declared.place.Place.TheVariants.{Out, Dec, Mark, Look, Spin, Naming, Named, Holding, Clearing, Inc, Unmark}
 use Rattle.kex_core.specs.Worlds.{due}
 use Rattle.kex_core.specs.Shapes.{Sheet, plan}
-use Rattle.kex_words.specs.declared.card.Card.{Card}
 use Rattle.kex_words.specs.declared.view.Role.TheVariants.{Party}
 use Rattle.kex_words.specs.declared.view.View.{View}
 use Rattle.kex_words.specs.Rule.{total, took_of, number_of, Homes}
-use Rattle.kex_words.specs.Steps.{next_view}
-
--- the words and slots of a table, and what each seat knows
-abbrev pub TableState : Type 0
-TableState = State (Option Card) View
+use Rattle.kex_words.specs.Steps.{TableState, next_view}
 
 -- the word of the access of this place
 abbrev pub word_at : Sheet → Place → ℕ

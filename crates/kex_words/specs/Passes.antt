@@ -1,11 +1,10 @@
 -- What a table and its passes are to whoever has them.
-use Rattle.std.specs.Prelude.{◌≡◌, ◌≢◌, ℕ, ◌+◌, ◌-◌, ◌*◌, ◌%◌, ◌^◌, ◌<◌, ◌≤◌, ◌==◌, if◌then◌else◌, List, [], ◌∷◌, ◌++◌, length, slice_index}
+use Rattle.std.specs.Prelude.{◌≡◌, ◌≢◌, ℕ, ◌+◌, ◌-◌, ◌*◌, ◌%◌, ◌^◌, ◌<◌, ◌==◌, if◌then◌else◌, List, [], ◌∷◌, ◌++◌, length, slice_index}
 use Rattle.atomic_table.specs.Seated.{TableId}
 use Rattle.kex_core.specs.declared.place.Place.{Place}
 use Rattle.kex_core.specs.declared.place.Place.TheVariants.{Out, Dec, Mark, Look, Spin, Naming, Named, Holding, Clearing, Inc, Unmark}
-use Rattle.kex_core.specs.Worlds.{Machine, due, found, after}
-use Rattle.kex_core.specs.Laws.{Kept}
-use Rattle.kex_core.specs.Costs.{bound, is_spin, kept_at}
+use Rattle.kex_core.specs.Worlds.{due, after}
+use Rattle.kex_core.specs.Costs.{is_spin, kept_at}
 use Rattle.kex_core.specs.Shapes.{Sheet, plan, IsNet}
 use Rattle.kex_words.specs.declared.card.Card.{Card}
 
@@ -103,15 +102,6 @@ arrived p a = record {
 abbrev pub stepped : Pass → ℕ → Pass
 stepped p n = arrived p (after (plan p.table.net) p.number (due_at p) n)
 
--- q is p after the access that is due, in some world that meets its invariant and has p's place
-pub record Moved (p q : Pass) : Type 0 where
-  pub world : Machine
-  pub inside : p.number < p.table.net.parties
-  pub kept : Kept (plan p.table.net) world
-  pub stood : world.place p.number ≡ p.place
-  pub now : q ≡ stepped p (found world p.number (due_at p))
-  pub bounded : q.firsts ≤ bound (plan q.table.net) q.number q.place
-
 -- how often x stands in a list
 abbrev pub times : ℕ → List ℕ → ℕ
 times x [] = 0
@@ -125,6 +115,16 @@ taken s (p ∷ ps) = times s p.got + taken s ps
 -- card s of a table that these passes have used
 abbrev pub used_card : List Pass → ℕ → Card
 used_card passes s = record { number = s; uses = taken s passes % 2 ^ 64 }
+
+-- passes of a table that were taken in for its close: their numbers, the last first, and the numbers that they took
+pub record TakenIn : Type 0 where
+  pub table : TableNet
+  pub numbers : List ℕ
+  pub got : List ℕ
+
+-- card s of a table, which was taken as often as s stands in the list
+abbrev pub counted_card : List ℕ → ℕ → Card
+counted_card got s = record { number = s; uses = times s got % 2 ^ 64 }
 
 -- a pass that was never used
 abbrev pub unused : TableNet → ℕ → Pass

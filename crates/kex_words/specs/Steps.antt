@@ -1,18 +1,20 @@
 -- The views of a seat, and what each step tells.
 use Rattle.std.specs.Prelude.{◌≡◌, ℕ, ◌+◌, ◌%◌, ◌^◌, ◌<◌, ◌≤◌, List, [], ◌∷◌, ◌++◌, Option, Some, None}
+use mathlib.Core.Option.{some}
+use lib.ListN.{get_elem?}
 use Rattle.atomic_table.specs.Seated.{TableId}
-use Rattle.atomic_table.specs.Table.{Me, Step, rest}
+use Rattle.atomic_table.specs.Table.{State, Me, Step, rest}
 use Rattle.kex_core.specs.declared.place.Place.{Place}
 use Rattle.kex_core.specs.declared.place.Place.TheVariants.{Out, Dec, Mark, Look, Spin, Naming, Named, Holding, Clearing, Inc, Unmark}
-use Rattle.kex_core.specs.Worlds.{Machine, found}
-use Rattle.kex_core.specs.Laws.{Placed, Kept}
+use Rattle.kex_core.specs.Worlds.{found}
+use Rattle.kex_core.specs.Laws.{Placed}
 use Rattle.kex_core.specs.Costs.{bound}
 use Rattle.kex_core.specs.Shapes.{Sheet, plan}
 use Rattle.kex_words.specs.declared.card.Card.{Card}
 use Rattle.kex_words.specs.declared.view.Role.TheVariants.{Maker, Party, Spent}
 use Rattle.kex_words.specs.declared.view.View.{View}
-use Rattle.kex_words.specs.Passes.{Pass, Held, due_at, stepped}
-use Rattle.kex_words.specs.Rule.{made_of, number_of}
+use Rattle.kex_words.specs.Passes.{Pass, Held, TakenIn, due_at, stepped}
+use Rattle.kex_words.specs.Rule.{made_of, number_of, total, took_of, IsReadOff}
 
 -- the number of a place among the names
 abbrev pub name_at : Place → ℕ
@@ -27,6 +29,10 @@ name_at (Look j) = 0
 name_at (Spin j) = 0
 name_at (Inc j) = 0
 name_at (Unmark j) = 0
+
+-- the words and slots of a table, and what each seat knows
+abbrev pub TableState : Type 0
+TableState = State (Option Card) View
 
 -- a seat's view, and the cards that it has out
 abbrev pub Self : Type 0
@@ -86,28 +92,31 @@ revised v p = record v { place = p.place; firsts = p.firsts; spins = p.spins; go
 abbrev pub next_view : View → ℕ → View
 next_view v n = revised v (stepped (standing v) n)
 
--- what is known of the access of a pass, which found n
-pub record Told (p : Pass) (n : ℕ) : Type 0 where
-  pub world : Machine
-  pub inside : p.number < p.table.net.parties
-  pub kept : Kept (plan p.table.net) world
-  pub stood : world.place p.number ≡ p.place
-  pub found_is : n ≡ found world p.number (due_at p)
-  pub placed : Placed (plan p.table.net) p.number (stepped p n).place
-  pub bounded : (stepped p n).firsts ≤ bound (plan p.table.net) p.number (stepped p n).place
+-- what is known of the access of a party's view, which found n: the state that it met, and where it leads
+pub record Told (v : View) (n : ℕ) : Type 0 where
+  pub state : TableState
+  pub ruled : IsReadOff v.net state
+  pub seat : ℕ
+  pub sits : get_elem? state.views seat ≡ some v
+  pub inside : number_of v.role < v.net.parties
+  pub stood : ruled.world.place (number_of v.role) ≡ v.place
+  pub found_is : n ≡ found ruled.world (number_of v.role) (due_at (standing v))
+  pub placed : Placed (plan v.net) (number_of v.role) (stepped (standing v) n).place
+  pub bounded : (stepped (standing v) n).firsts ≤ bound (plan v.net) (number_of v.role) (stepped (standing v) n).place
 
 -- an access that moves no card
 abbrev pub moved : Step (Option Card) → Self → ℕ → Self → Type 0
-moved st m n m' = Told (standing m.0) n × (m' ≡ (next_view m.0 n, m.1))
+moved st m n m' = Told m.0 n × (m' ≡ (next_view m.0 n, m.1))
 
 -- the card was taken, and its uses are to be one more
 abbrev pub took : Step (Option Card) → Self → ℕ → Self → Type 0
-took st m n m' = Told (standing m.0) n × ((c : Card) × (c.number ≡ name_at m.0.place)
-    × (m' ≡ (record (next_view m.0 n) { uses = (c.uses + 1) % 2 ^ 64 }, (name_at m.0.place, Some c) ∷ m.1)))
+took st m n m' = (t : Told m.0 n) × ((c : Card) × (c.number ≡ name_at m.0.place)
+    × (m' ≡ (record (next_view m.0 n) { uses = (c.uses + 1) % 2 ^ 64 }, (name_at m.0.place, Some c) ∷ m.1))
+    × (c.uses ≡ total (took_of (name_at m.0.place)) t.state.views % 2 ^ 64))
 
 -- the card went home
 abbrev pub gave : Step (Option Card) → Self → ℕ → Self → Type 0
-gave st m n m' = Told (standing m.0) n × (m' ≡ (next_view m.0 n, rest m.1))
+gave st m n m' = Told m.0 n × (m' ≡ (next_view m.0 n, rest m.1))
 
 -- the seat has the pass's view and no card, and the pass lies on its party's path
 pub record IsPass (p : Pass) (m : Self) : Type 0 where
@@ -127,23 +136,17 @@ pub record IsHolder (h : Held) (m : Self) : Type 0 where
   pub place_is : h.pass.place ≡ Holding h.card.number
   pub placed : Placed (plan h.pass.table.net) h.pass.number h.pass.place
 
--- the numbers that were taken by the passes that were joined into the first, with its own
-abbrev pub gots : Pass → List Pass → List ℕ
-gots first [] = first.got
-gots first (p ∷ ps) = gots first ps ++ p.got
-
+-- the numbers of passes
 abbrev pub numbers_of : List Pass → List ℕ
 numbers_of [] = []
 numbers_of (p ∷ ps) = p.number ∷ numbers_of ps
 
--- the view of the last pass, with the others joined into it
-abbrev pub gathered : Pass → List Pass → View
-gathered first done = record (seated first) { got = gots first done; joined = numbers_of done }
+-- what was taken in, by the view of the seat that the others were joined into
+abbrev pub taken_in : TableId → View → TakenIn
+taken_in id v = record { table = record { id = id; net = v.net }; numbers = v.joined ++ number_of v.role ∷ []; got = v.got }
 
--- the passes, which are Out, were joined into the last of them
-pub record IsGathered (passes : List Pass) (m : Self) : Type 0 where
-  pub first : Pass
-  pub done : List Pass
-  pub passes_are : passes ≡ done ++ first ∷ []
-  pub sits : m ≡ (gathered first done, [])
-  pub rests : first.place ≡ Out
+-- the seat is that of a party that is Out, and others may have been joined into it
+pub record IsTakenIn (m : Self) : Type 0 where
+  pub alone : m.1 ≡ []
+  pub role_is : m.0.role ≡ Party (number_of m.0.role)
+  pub rests : m.0.place ≡ Out

@@ -19,6 +19,7 @@ mod view;
 mod words;
 
 pub use card::Card;
-pub use laws::{accesses_are_moves, tables_are_safe};
+pub use closing::Gathering;
+pub use laws::{accesses_are_moves, calls_are_moves, tables_are_safe};
 pub use passes::{Back, Entering, Hold, Leaving, Named, Naming, Next, Out};
 pub use words::KexTable;

@@ -1,7 +1,7 @@
 //! The passes of a table, of one type for each kind of place.
 //!
 //! None can be copied, and only the calls of a [`KexTable`](crate::KexTable) make them. Contracts see a pass as a `Pass`: the `table` that it is of, its party's `number` and `place`, the accesses since the party was last Out, `firsts` but for reads of spin words and `spins` for these, and `got`, the numbers that the party took, in order.
-ghost use Rattle.std.specs.Prelude.{◌≡◌, ◌⊎◌};
+ghost use Rattle.std.specs.Prelude.{◌≡◌, ◌⊎◌, ◌<◌};
 ghost use Rattle.kex_core.specs.declared.place.Place.TheVariants.{Holding};
 ghost use Rattle.kex_words.specs.Passes.{Pass, Held, IsOut, EntersAt, kind_of, due_at, entering, naming, named, leaving, outside};
 ghost use Rattle.kex_words.specs.Sorts.{pass_in_next, pass_in_back, kind_in_next, kind_in_back};
@@ -267,6 +267,7 @@ impl Hold {
     pub fn seat(&self) -> u32
         ensures card { result ≡ self.now.card.number }
         ensures place { self.now.pass.place ≡ Holding result }
+        ensures low { result < self.now.pass.table.net.width }
     {
         self.card.number
     }

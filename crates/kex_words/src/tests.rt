@@ -6,8 +6,10 @@ use crate::{Back, Entering, Hold, KexTable, Leaving, Next, Out};
 use kex_core::{NoMemory, Place};
 use kex_net::chain;
 use std::alloc::Global;
+use std::sync::Wait;
 use std::test::Fail;
 use std::thread::{Threads, join};
+use std::time::Duration;
 
 // the access of a pass among the stages
 fn stage_step(table: &KexTable, e: Entering) -> Next
@@ -115,8 +117,8 @@ fn three(alloc: Global) -> Result<(KexTable, Out, Out, Out), NoMemory>
     Ok((table, zero, one, two))
 }
 
-// Parties 0 and 1 have passed, and party 2 finds no room.
-fn full_stage(table: &KexTable, two: Out) -> [Option<Place>; 5]
+// Parties 0 and 1 have passed, and party 2 finds no room. It naps once while it spins.
+fn full_stage<R: Wait>(rt: &R, table: &KexTable, two: Out) -> [Option<Place>; 5]
     requires { two.table ≡ table.now }
 {
     let two = table.begin(two);
@@ -127,6 +129,9 @@ fn full_stage(table: &KexTable, two: Out) -> [Option<Place>; 5]
     let marked = place_in(&two);
     let two = inward(table, two, 1);
     let waiting = place_in(&two);
+    if let Next::Entering(e) = &two {
+        table.nap(rt, e, Duration::from_micros(50));
+    }
     let two = inward(table, two, 1);
     [begun, counted, marked, waiting, place_in(&two)]
 }
@@ -136,7 +141,7 @@ fn two_pass_and_the_third_spins(rt: HostRuntime) -> Result<(), Fail> {
     let (table, zero, one, two) = three(rt.alloc())?;
     let zero = inward(&table, table.begin(zero), 1);
     let one = inward(&table, table.begin(one), 1);
-    let places = full_stage(&table, two);
+    let places = full_stage(&rt, &table, two);
     let expected = [
         Place::Out,
         Place::Mark(0),

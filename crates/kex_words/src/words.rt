@@ -1,18 +1,23 @@
 //! The table and its step calls.
-ghost use Rattle.std.specs.Prelude.{◌≡◌, ◌↔◌, ◌⊎◌, ℕ, ◌+◌, ◌*◌, ◌<◌, ◌≤◌, [], length};
+ghost use Rattle.std.specs.Prelude.{◌≡◌, ◌↔◌, ◌⊎◌, ℕ, ◌+◌, ◌*◌, ◌%◌, ◌^◌, ◌<◌, ◌≤◌, [], length, slice_index};
 ghost use Rattle.kex_core.specs.declared.place.Place.TheVariants.{Dec, Mark, Look, Spin, Clearing, Inc, Unmark};
 ghost use Rattle.kex_core.specs.Shapes.{plan};
+ghost use Rattle.kex_core.specs.Sets.{is_between, others};
 ghost use Rattle.kex_core.specs.Worlds.{after};
 ghost use Rattle.kex_core.specs.Laws.{Placed};
-ghost use Rattle.kex_words.specs.Passes.{Pass, Moved, due_at, kind_of, entering, naming, named, leaving, outside};
+ghost use Rattle.kex_words.specs.Passes.{Pass, IsOut, due_at, kind_of, entering, naming, named, leaving, outside};
+ghost use Rattle.kex_words.specs.Moves.{Moved};
 ghost use Rattle.kex_words.specs.Sorts.{pass_in_next, pass_in_back, kind_in_next, kind_in_back};
 ghost use Rattle.kex_words.specs.Steps.{pass_of, IsPass};
+ghost use Rattle.kex_words.specs.Rule.{total, took_of};
 
 use crate::card::Card;
 use crate::passes::{Back, Entering, Hold, Leaving, Named, Naming, Next, Out, Seated};
 use crate::table::{GivesCard, Moves, TakesCard, WordSeat, WordTable, counter_word, spin_word};
 use kex_core::{Net, Place};
 use std::marker::Model;
+use std::sync::Wait;
+use std::time::Duration;
 
 /// The shared words of a net, and its cards. Threads share it by reference.
 ///
@@ -48,6 +53,7 @@ impl KexTable {
     pub fn begin(&self, out: Out) -> Next
         requires own { out.table ≡ self.now }
         ensures same { pass_in_next result ≡ out }
+        ensures rests { IsOut (pass_in_next result) }
         ensures kind { kind_in_next result ≡ kind_of (due_at out) }
     {
         let Out { seated } = out;
@@ -95,12 +101,12 @@ impl KexTable {
         let Place::Mark(j) = place else {
             unreachable!()
         };
-        let name = u64::from(number) + 1;
+        let waiter = u64::from(number) + 1;
         self.table
             .shared
-            .store::<Moves>(&mut seat, spin_word(j), name);
+            .store::<Moves>(&mut seat, spin_word(j), waiter);
         Entering {
-            seated: self.arrive(number, place, name, seat),
+            seated: self.arrive(number, place, waiter, seat),
         }
     }
 
@@ -125,13 +131,14 @@ impl KexTable {
         self.next(number, place, counter, seat)
     }
 
-    /// Spin: reads the stage's spin word. The party stays exactly where it finds its own number, and else passes the stage.
+    /// Spin: reads the stage's spin word. The party stays exactly where it finds its own number, and else passes the stage. Where it stays, as many others are between as the stage admits.
     pub fn spin(&self, e: Entering) -> Next
         requires own { e.table ≡ self.now }
         requires due { (j : ℕ) × (due_at e ≡ Spin j) }
         ensures same { ((pass_in_next result).table ≡ e.table) × ((pass_in_next result).number ≡ e.number) }
         ensures moved { Moved e (pass_in_next result) }
-        ensures stays { (j : ℕ) (m : Moved e (pass_in_next result)) → due_at e ≡ Spin j → ((pass_in_next result).place ≡ Spin j) ↔ (m.world.q j ≡ e.number + 1) }
+        ensures stays { (j : ℕ) (m : Moved e (pass_in_next result)) → due_at e ≡ Spin j → ((pass_in_next result).place ≡ Spin j) ↔ (slice_index m.state.words (2 * j + 2) ≡ e.number + 1) }
+        ensures between { (j : ℕ) (m : Moved e (pass_in_next result)) → due_at e ≡ Spin j → (pass_in_next result).place ≡ Spin j → (plan self.now.net).cap j ≤ others is_between (plan self.now.net) m.ruled.world e.number j }
         ensures kind { kind_in_next result ≡ kind_of (pass_in_next result).place }
     {
         let Entering { seated } = e;
@@ -145,6 +152,16 @@ impl KexTable {
         };
         let named = self.table.shared.load::<Moves>(&mut seat, spin_word(j));
         self.next(number, place, named, seat)
+    }
+
+    /// Sleeps so long at most, where the party spins, and not at all where its stage's spin word has another number by now. It reads that word without telling what it found, and nobody wakes the sleeper.
+    pub fn nap<R: Wait>(&self, rt: &R, e: &Entering, time: Duration)
+        requires own { e.now.table ≡ self.now }
+    {
+        if let Place::Spin(j) = e.seated.place {
+            let name = e.seated.number + 1;
+            self.table.shared.park_timeout(rt, spin_word(j), name, time);
+        }
     }
 
     /// TestSet: sets the bit. The party has the bit's number where it was not set.
@@ -178,6 +195,8 @@ impl KexTable {
         ensures same { (result.pass.table ≡ n.table) × (result.pass.number ≡ n.number) }
         ensures moved { Moved n result.pass }
         ensures place { n.place ≡ Place.Named result.card.number }
+        ensures low { result.card.number < self.now.net.width }
+        ensures uses { (m : Moved n result.pass) × (result.card.uses ≡ (total (took_of result.card.number) m.state.views % 2 ^ 64 + 1) % 2 ^ 64) }
     {
         let Named { seated } = n;
         let Seated {
@@ -298,11 +317,11 @@ impl KexTable {
         let Place::Unmark(j) = place else {
             unreachable!()
         };
-        let name = u64::from(number) + 1;
+        let leaver = u64::from(number) + 1;
         self.table
             .shared
-            .store::<Moves>(&mut seat, spin_word(j), name);
-        self.back(number, place, name, seat)
+            .store::<Moves>(&mut seat, spin_word(j), leaver);
+        self.back(number, place, leaver, seat)
     }
 
     // the word of bit i

@@ -7,7 +7,8 @@ use Rattle.kex_core.specs.Worlds.{due}
 use Rattle.kex_core.specs.Costs.{depth}
 use Rattle.kex_core.specs.Shapes.{plan}
 use Rattle.kex_core.proofs.Sums.{chosen}
-use Rattle.kex_words.specs.Passes.{TableNet, Pass, Moved, IsOut, kind_of, got_after, leaving, outside}
+use Rattle.kex_words.specs.Passes.{TableNet, Pass, IsOut, kind_of, got_after, leaving, outside}
+use Rattle.kex_words.specs.Moves.{Moved}
 use Rattle.kex_words.specs.Sorts.{pass_in_back, kind_in_back}
 use Rattle.kex_words.specs.declared.passes.Back.{Back}
 use Rattle.seat_names.specs.Ways.{Leads, back_at}

@@ -1,6 +1,7 @@
 -- The loop of turns.
 use Rattle.std.proofs.Common.{◌≡◌, List, [], ◌∷◌, ◌++◌, ◌∙◌}
-use Rattle.kex_words.specs.Passes.{TableNet, Pass, Moved}
+use Rattle.kex_words.specs.Passes.{TableNet, Pass}
+use Rattle.kex_words.specs.Moves.{Moved}
 use Rattle.seat_names.specs.declared.turns.Turn.{Turn}
 use Rattle.seat_names.specs.Turns.{pass_in_turn}
 use Rattle.seat_names.specs.Ways.{Leads}

@@ -1,6 +1,7 @@
 -- Ways of one more access, and of two parts.
 use Rattle.std.proofs.Common.{List, [], ◌∷◌, ◌++◌, refl, sym, subst}
-use Rattle.kex_words.specs.Passes.{Pass, Moved}
+use Rattle.kex_words.specs.Passes.{Pass}
+use Rattle.kex_words.specs.Moves.{Moved}
 use Rattle.seat_names.specs.Ways.{Leads}
 
 pub leads_more : (p : Pass) (way : List Pass) (q r : Pass) → Leads p way q → Moved q r → Leads p (way ++ r ∷ []) r

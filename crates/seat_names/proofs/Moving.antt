@@ -6,7 +6,8 @@ use Rattle.kex_core.specs.Worlds.{due, found, after}
 use Rattle.kex_core.specs.Laws.{Placed}
 use Rattle.kex_core.specs.Costs.{is_spin, kept_at}
 use Rattle.kex_core.specs.Shapes.{plan}
-use Rattle.kex_words.specs.Passes.{Pass, Moved, IsOut, due_at, kind_of, got_after, outside, entering}
+use Rattle.kex_words.specs.Passes.{Pass, IsOut, due_at, kind_of, got_after, outside, entering}
+use Rattle.kex_words.specs.Moves.{Moved}
 
 is_out : (d : Place) → kind_of d ≡ outside → d ≡ Out
 is_out Out k = refl
@@ -30,22 +31,22 @@ module _ (p q : Pass) (m : Moved p q) where
 
   -- what the access found
   pub met : ℕ
-  met = found m.world p.number (due_at p)
+  met = found m.ruled.world p.number (due_at p)
 
   pub moved_place : (d : Place) → due_at p ≡ d → q.place ≡ after (plan p.table.net) p.number d met
   unfolding met
-  moved_place d e = ap (λ (z : Pass). z.place) m.now ∙ ap (λ (z : Place). after (plan p.table.net) p.number z (found m.world p.number (due_at p))) e
+  moved_place d e = ap (λ (z : Pass). z.place) m.now ∙ ap (λ (z : Place). after (plan p.table.net) p.number z (found m.ruled.world p.number (due_at p))) e
 
   pub moved_got : (d : Place) → due_at p ≡ d → q.got ≡ got_after d p.got
   moved_got d e = ap (λ (z : Pass). z.got) m.now ∙ ap (λ (z : Place). got_after z p.got) e
 
   pub stood_placed : Placed (plan p.table.net) p.number p.place
-  stood_placed = subst (Placed (plan p.table.net) p.number) m.stood (m.kept.placed p.number m.inside)
+  stood_placed = subst (Placed (plan p.table.net) p.number) m.stood (m.ruled.kept.placed p.number m.inside)
 
   pub rests_out : kind_of q.place ≡ outside → IsOut q
   rests_out k =
       let o = is_out q.place k in
-      let a : after (plan p.table.net) p.number (due_at p) (found m.world p.number (due_at p)) ≡ Out = sym (ap (λ (z : Pass). z.place) m.now) ∙ o in
+      let a : after (plan p.table.net) p.number (due_at p) (found m.ruled.world p.number (due_at p)) ≡ Out = sym (ap (λ (z : Pass). z.place) m.now) ∙ o in
       record {
         place_is = o;
         firsts = ap (λ (z : Pass). z.firsts) m.now ∙ ap (λ (z : Place). kept_at z (p.firsts + 1 - is_spin (due_at p))) a;

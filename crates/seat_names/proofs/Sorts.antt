@@ -7,7 +7,8 @@ use Rattle.kex_core.specs.Worlds.{passed, found, after}
 use Rattle.kex_core.specs.Shapes.{plan}
 use Rattle.kex_core.specs.Costs.{bound}
 use Rattle.kex_core.proofs.Sums.{chosen, eq_test, ne_test, eq_from, ne_from}
-use Rattle.kex_words.specs.Passes.{Pass, Moved, due_at, kind_of, entering}
+use Rattle.kex_words.specs.Passes.{Pass, due_at, kind_of, entering}
+use Rattle.kex_words.specs.Moves.{Moved}
 use Rattle.seat_names.specs.declared.turns.Turn.{Turn}
 use Rattle.seat_names.specs.declared.turns.Turn.TheVariants as turn
 use Rattle.seat_names.specs.declared.turns.Through.TheVariants as through
@@ -66,12 +67,12 @@ again_on (turn.Through (through.Naming n)) h = cc
 again_on (turn.Through (through.Named n)) h = cc
 
 pub moved_along : (p q r : Pass) → Moved p q → r ≡ q → Moved p r
-moved_along p q r m e = record { world = m.world; inside = m.inside; kept = m.kept; stood = m.stood; now = e ∙ m.now; bounded = subst (λ (z : Pass). z.firsts ≤ bound (plan z.table.net) z.number z.place) (sym e) m.bounded }
+moved_along p q r m e = record { state = m.state; ruled = m.ruled; seat = m.seat; uses = m.uses; sits = m.sits; inside = m.inside; stood = m.stood; now = e ∙ m.now; bounded = subst (λ (z : Pass). z.firsts ≤ bound (plan z.table.net) z.number z.place) (sym e) m.bounded }
 
 pub turned_by : (p q : Pass) (t : Turn) → kind_of (due_at p) ≡ entering → Moved p q → pass_in_turn t ≡ q → kind_in_turn t ≡ kind_of q.place → Turned p t
 unfolding moved_along
 turned_by p q t d m same k =
-    let n = found m.world p.number (due_at p) in
+    let n = found m.ruled.world p.number (due_at p) in
     let a : kind_of q.place ≡ kind_of (after (plan p.table.net) p.number (due_at p) n) = ap (λ (z : Pass). kind_of z.place) m.now in
     record {
       moved = moved_along p q (pass_in_turn t) m same;

@@ -7,7 +7,8 @@ use Rattle.kex_core.specs.Worlds.{due, after}
 use Rattle.kex_core.specs.Shapes.{plan}
 use Rattle.kex_core.proofs.Sums.{chosen, eq_from, ne_from}
 use Rattle.kex_core.proofs.Exports.{due_placed}
-use Rattle.kex_words.specs.Passes.{TableNet, Pass, Moved, due_at, kind_of, naming, entering}
+use Rattle.kex_words.specs.Passes.{TableNet, Pass, due_at, kind_of, naming, entering}
+use Rattle.kex_words.specs.Moves.{Moved}
 use Rattle.seat_names.specs.Ways.{Leads, tests_at}
 use Rattle.seat_names.proofs.Leading.{leads_more}
 use Rattle.seat_names.proofs.Moving.{moved_table, moved_number, met, moved_place, moved_got}
@@ -58,7 +59,7 @@ testing_first t start e = record { table = e; same = (refl, refl); got = refl; w
 module _ (t : TableNet) (valid : Valid (plan t.net)) (start now next : Pass) (so : Testing t start now) (i : ℕ) (d : due_at now ≡ Naming i) (m : Moved now next) where
   low : i + 1 < (plan now.table.net).width
   low = let v : Valid (plan now.table.net) = subst (λ (z : TableNet). Valid (plan z.net)) (sym so.table) valid in
-      let b = due_placed (plan now.table.net) v m.world m.kept now.number m.inside (Naming i) (ap (due (plan now.table.net) now.number) m.stood ∙ d) in b.0
+      let b = due_placed (plan now.table.net) v m.ruled.world m.ruled.kept now.number m.inside (Naming i) (ap (due (plan now.table.net) now.number) m.stood ∙ d) in b.0
 
   next_place : next.place ≡ after (plan now.table.net) now.number (Naming i) (met now next m)
   next_place = moved_place now next m (Naming i) d

@@ -5,7 +5,8 @@ use Rattle.kex_core.specs.declared.place.Place.TheVariants.{Out, Dec, Mark, Look
 use Rattle.kex_core.specs.Nets.{Plan}
 use Rattle.kex_core.specs.Worlds.{found}
 use Rattle.kex_core.specs.Shapes.{plan}
-use Rattle.kex_words.specs.Passes.{Pass, Moved, Kind, due_at, entering, naming, named}
+use Rattle.kex_words.specs.Passes.{Pass, Kind, due_at, entering, naming, named}
+use Rattle.kex_words.specs.Moves.{Moved}
 use Rattle.seat_names.specs.declared.turns.Turn.{Turn}
 use Rattle.seat_names.specs.declared.turns.Turn.TheVariants as turn
 use Rattle.seat_names.specs.declared.turns.Through.{Through}
@@ -54,4 +55,4 @@ Stays net p (Unmark j) n = ⊥
 -- the turn made the one access that was due for p, and tells Again exactly where that leaves p among the stages
 pub record Turned (p : Pass) (t : Turn) : Type 0 where
   pub moved : Moved p (pass_in_turn t)
-  pub again : IsAgain t ↔ Stays (plan p.table.net) p.number (due_at p) (found moved.world p.number (due_at p))
+  pub again : IsAgain t ↔ Stays (plan p.table.net) p.number (due_at p) (found moved.ruled.world p.number (due_at p))

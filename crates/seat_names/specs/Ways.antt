@@ -4,7 +4,8 @@ use Rattle.kex_core.specs.declared.place.Place.{Place}
 use Rattle.kex_core.specs.declared.place.Place.TheVariants.{Out, Dec, Mark, Look, Spin, Naming, Named, Holding, Clearing, Inc, Unmark}
 use Rattle.kex_core.specs.Nets.{Plan}
 use Rattle.kex_core.specs.Costs.{rank, depth}
-use Rattle.kex_words.specs.Passes.{Pass, Moved}
+use Rattle.kex_words.specs.Passes.{Pass}
+use Rattle.kex_words.specs.Moves.{Moved}
 
 -- from p, one access after another leads to each of these passes in turn, and q is the last of them
 abbrev pub Leads : Pass → List Pass → Pass → Type 0

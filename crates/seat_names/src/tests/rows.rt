@@ -6,7 +6,7 @@ use crate::tests::trial::Trial;
 use crate::{Seats, Turn};
 use kex_core::{NoMemory, Place};
 use kex_net::chain;
-use kex_words::{Entering, Hold, Out};
+use kex_words::{Entering, Gathering, Hold, Out};
 use std::alloc::Global;
 use std::sync::Wait;
 use std::test::Fail;
@@ -185,9 +185,9 @@ fn go(seats: &Seats, passes: &mut Vec<Out>, hold: Hold)
     passes.push_reserved(seats.leave(hold));
 }
 
-// the seats and the cards' uses, where all three parties come, 1 leaves and comes again, and all leave
+// the seats and the cards' uses, where all three parties come, 1 leaves and comes again, and all leave and are taken in one by one
 fn come_and_go(seats: Seats, mut passes: Vec<Out>) -> Option<([u32; 4], [u64; 3])>
-    requires count { vec_len passes ≡ seats.net.parties }
+    requires three { seats.net.parties ≡ 3 }
     requires own { All (λ p. p.table ≡ seats) passes.items }
 {
     let two = take(&seats, &mut passes)?;
@@ -199,10 +199,10 @@ fn come_and_go(seats: Seats, mut passes: Vec<Out>) -> Option<([u32; 4], [u64; 3]
     let first = one.seat();
     let one = come(&seats, seats.leave(one))?;
     let taken = [zero.seat(), first, two.seat(), one.seat()];
-    go(&seats, &mut passes, zero);
-    go(&seats, &mut passes, one);
-    go(&seats, &mut passes, two);
-    let cards = seats.close(passes);
+    let gathering = Gathering::of(seats.leave(zero));
+    let gathering = seats.gather(gathering, seats.leave(one));
+    let gathering = seats.gather(gathering, seats.leave(two));
+    let cards = seats.close_gathered(gathering);
     let uses = [cards.first()?.uses, cards.get(1)?.uses, cards.get(2)?.uses];
     Some((taken, uses))
 }
@@ -225,6 +225,7 @@ fn enter_once<R: Wait>(rt: &R, seats: Seats, mut passes: Vec<Out>) -> Option<((u
 fn numbers_are_taken_in_order(rt: HostRuntime) -> Result<(), Fail> {
     let alloc = rt.alloc();
     let (seats, passes) = Seats::make(alloc, chain(alloc, 3, 5)?)?;
+    assert_eq!(rt; seats.net().width(), 3);
     assert_eq!(rt; come_and_go(seats, passes), Some(([0, 1, 2, 1], [1, 2, 1])));
     let (seats, passes) = Seats::make(alloc, chain(alloc, 2, 1)?)?;
     assert_eq!(rt; enter_once(&rt, seats, passes), Some(((1, 0, 1), 1)));

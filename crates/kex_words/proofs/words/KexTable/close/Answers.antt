@@ -1,13 +1,13 @@
-use Rattle.std.proofs.Common.{◌<◌, arith, ◌∙◌, sym}
-use Rattle.kex_words.specs.Passes.{used_card}
-use Rattle.kex_words.proofs.Close.{closes_at}
+use Rattle.std.proofs.Common.{◌%◌, ◌^◌, ◌<◌, All, length, ap, ◌∙◌, sym, subst}
+use Rattle.kex_words.proofs.Uses.{all_numbered}
+use Rattle.kex_words.proofs.Gathers.{count_numbers}
 use Rattle.kex_words.proofs.words.KexTable.close.Goals as goal
 
-pub take_cards-requires-clause-home : goal.take_cards-requires-clause-home
-take_cards-requires-clause-home c k l =
-    (used_card c.args.passes.items k, closes_at _ _ _ _ _ _ _ _ _ _ c.self.invariant.0 c.self.view_is (sym c.args.passes.ok.0 ∙ c.requires.count) c.gather-seat.ensures.all c.close_with-closed.ensures.values.2 c.width.ensures k l)
+pub close_gathered-requires-clause-count : goal.close_gathered-requires-clause-count
+close_gathered-requires-clause-count c = ap length c.gather_all-gathering.ensures.numbers ∙ (count_numbers c.args.passes.items ∙ (sym c.args.passes.ok.0 ∙ c.requires.count))
 
-pub returns-clause-cards : goal.returns-clause-cards
-returns-clause-cards c k l = let t = c.take_cards.ensures in let inside : k < c.width.result = let n = t.count in let o = c.take_cards.new.cards.ok.0 in omega arith in
-    t.cards k (used_card c.args.passes.items k) inside
-    (closes_at _ _ _ _ _ _ _ _ _ _ c.self.invariant.0 c.self.view_is (sym c.args.passes.ok.0 ∙ c.requires.count) c.gather-seat.ensures.all c.close_with-closed.ensures.values.2 c.width.ensures k inside)
+pub returns-clause-uses : goal.returns-clause-uses
+returns-clause-uses c = c.close_gathered.ensures.uses ∙ ap (λ n. n % 2 ^ 64) c.gather_all-gathering.ensures.all
+
+pub returns-clause-below : goal.returns-clause-below
+returns-clause-below c = all_numbered _ _ (subst (All (λ q. q < c.args.self.net.parties)) c.gather_all-gathering.ensures.numbers c.close_gathered.ensures.below)
