@@ -40,8 +40,8 @@ module _ {V L Q A : Type 0} (law_of : V → L) (party : Q → ℕ) (run : L → 
         gives,
         tt,
         restage law_of party run stands law n s r id p.number v (Home t) p.seen r.served r.drawn r.holder (set s.words 2 (get_or s.words 2 0)) (set s.homes 0 (some x)) at refl known.seen known.mine_seen (λ z. z)
-            (length-set s.words 2 _ ∙ r.wide) (same_words law_of party run stands law n s.words 2 1 ∙ r.ticket_is) (same_words law_of party run stands law n s.words 2 2 ∙ r.serving_is) (same_words law_of party run stands law n s.words 2 3 ∙ r.count_is)
-            (omega arith) (λ j d other e. (r.each j d e).1) (k.0, k.1, k.2)
+            (length-set s.words 2 _ ∙ r.wide) (same_words law_of party run stands law n s.words 2 1 ∙ r.ticket_is) (same_words law_of party run stands law n s.words 2 2 ∙ r.serving_is)
+            (omega arith) (omega arith) (λ j d other e. (r.each j d e).1) (k.0, k.1, k.2)
             (inl (
               y,
               ap (λ (hs : Homes). set hs 0 (some x)) (not_home law_of party run stands law n s r id v at refl) ∙ ap (λ (z : Option V). some z ∷ []) here,

@@ -1,5 +1,5 @@
 -- One pass is joined into another.
-use Rattle.std.proofs.Common.{◌≡◌, ◌≢◌, ℕ, zero, suc, ◌+◌, ◌<◌, List, ◌∷◌, ◌++◌, length, set, sym, refl, ap, ◌∙◌, subst, ⊎_elim, inl, inr, arith, Option, length-append}
+use Rattle.std.proofs.Common.{◌≡◌, ◌≢◌, ℕ, zero, suc, ◌+◌, ◌<◌, ◌≤◌, List, ◌∷◌, ◌++◌, length, set, sym, refl, ap, ◌∙◌, subst, ⊎_elim, inl, inr, arith, Option, length-append}
 use mathlib.Core.Logic.{dite}
 use mathlib.Core.Option.{none, some, some-injective, some-ne-none}
 use mathlib.Core.Option as maybe
@@ -15,13 +15,17 @@ use Rattle.turn_lock.specs.declared.view.Joined.{Joined}
 use Rattle.turn_lock.specs.declared.view.View.{View}
 use Rattle.turn_lock.specs.Entries.{IsPrefix, own}
 use Rattle.turn_lock.specs.Passes.{Pass}
-use Rattle.turn_lock.specs.Rule.{has_ticket, is_out, weigh, weight, tickets_in, number_of, Stays, Fits, HasNumber, HasSeen, IsLongest, Ruled}
+use Rattle.turn_lock.specs.Rule.{has_ticket, has_entry, is_out, weigh, weight, tickets_in, entries_in, number_of, Stays, Fits, HasNumber, HasSeen, IsLongest, Ruled}
 use Rattle.turn_lock.specs.Steps.{spent, joined_of, both}
 use Rattle.turn_lock.proofs.Members.{total_set, each_set, set_at, at_append, at_behind}
+use Rattle.turn_lock.proofs.Apart.{with_number, number_cons, found, once_in_both}
 use Rattle.turn_lock.proofs.Owners.{moved, moved_here, moved_else}
-use Rattle.turn_lock.proofs.Keeps.{knows, value_set, value_stays}
+use Rattle.turn_lock.proofs.Keeps.{knows, maker_set, value_set, value_stays}
 
 module _ {Q A : Type 0} where
+  abbrev number : Joined Q A → ℕ
+  number j = j.number
+
   -- what holds of each joined entry holds after a join
   every : (J : Joined Q A → Type 0) (y : Joined Q A) (l m : List (Joined Q A)) → J y → ((i : ℕ) (x : Joined Q A) → get_elem? l i ≡ some x → J x) → ((i : ℕ) (x : Joined Q A) → get_elem? m i ≡ some x → J x)
       → (i : ℕ) (x : Joined Q A) → get_elem? (y ∷ (l ++ m)) i ≡ some x → J x
@@ -59,6 +63,7 @@ module _ {V L Q A : Type 0} (law_of : V → L) (party : Q → ℕ) (run : L → 
     mine_seen = f.mine_seen;
     mine = f.mine;
     joined = λ i y e. let h = f.joined i y e in (h.0, moved_else owner gone id y.number (λ z. other (sym h.1 ∙ z)) ∙ h.1, h.2, h.3, h.4);
+    once = f.once;
   }
   joined_known history made maker_seat id gone j owner d Spent other f = record { idle = f.idle }
 
@@ -123,6 +128,13 @@ module _ {V L Q A : Type 0} (law_of : V → L) (party : Q → ℕ) (run : L → 
           mine_seen = kv.mine_seen;
           mine = kv.mine;
           joined = every J (joined_of w) w.joined v.joined first from_w from_v;
+          once = λ x. let c = number_cons number x (joined_of w) (w.joined ++ v.joined) in
+              let in_v : 1 ≤ with_number number x v.joined → r.owner x ≡ id = λ l. let f = found number x v.joined l in ap r.owner f.3 ∙ (kv.joined f.0 f.1 f.2).1 in
+              let in_w : 1 ≤ with_number number x w.joined → r.owner x ≡ gone = λ l. let f = found number x w.joined l in ap r.owner f.3 ∙ (kw.joined f.0 f.1 f.2).1 in
+              let b = once_in_both number x (number_of w.role) w.joined v.joined (kw.once x) (kv.once x)
+              (λ same l. let f = found number x w.joined l in (kw.joined f.0 f.1 f.2).3 (sym f.3 ∙ (same ∙ num_w)))
+              (λ l same. apart (sym kw.owned ∙ (ap r.owner (sym num_w ∙ sym same) ∙ in_v l)))
+              (λ l k. apart (sym (in_w k) ∙ in_v l)) in omega (arith, c, b);
         },
         (r.each id v at).1,
       ) in
@@ -137,12 +149,13 @@ module _ {V L Q A : Type 0} (law_of : V → L) (party : Q → ℕ) (run : L → 
         wide = r.wide;
         ticket_is = r.ticket_is;
         serving_is = r.serving_is;
-        count_is = r.count_is;
         tickets = let t = total_set tickets_in s.views id v b at in let u = total_set tickets_in (set s.views id b) gone w none at' in let d = r.tickets in let z : has_ticket w.stage ≡ 0 = ap has_ticket idle_w in omega arith;
+        entries = let t = total_set entries_in s.views id v b at in let u = total_set entries_in (set s.views id b) gone w none at' in let d = r.entries in let z : has_entry w.stage ≡ 0 = ap has_entry idle_w in omega arith;
         few = r.few;
         weights = let t = total_set (weight n) s.views id v b at in let u = total_set (weight n) (set s.views id b) gone w none at' in let d = r.weights in
             let a : weight n v ≡ 1 + length v.joined = ap (weigh n (length v.joined)) is_v in let c : weight n w ≡ 1 + length w.joined = ap (weigh n (length w.joined)) is_w in
             let e : weight n b ≡ 1 + length (joined_of w ∷ (w.joined ++ v.joined)) = ap (weigh n (length b.joined)) is_v in let f = length-append w.joined v.joined in omega arith;
+        maker = maker_set law_of party run stands law n r.made r.maker_seat q (set s.views id b) gone w none at' is_w (maker_set law_of party run stands law n r.made r.maker_seat p s.views id v b at is_v r.maker);
         runs = r.runs;
         longest = ⊎_elim inl (λ (t : (j : ℕ) × (d : W) × (get_elem? s.views j ≡ some d) × HasSeen r.history d). joined_longest s.views id gone v w at at_w apart r.history t.0 t.1 t.2 t.3) r.longest;
         others = r.others;

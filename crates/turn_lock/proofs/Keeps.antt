@@ -16,7 +16,7 @@ use Rattle.turn_lock.specs.declared.view.Stage.TheVariants.{Idle, Waiting, Turn,
 use Rattle.turn_lock.specs.declared.view.View.{View}
 use Rattle.turn_lock.specs.Entries.{IsPrefix, own}
 use Rattle.turn_lock.specs.Passes.{Pass}
-use Rattle.turn_lock.specs.Rule.{total, has_ticket, is_out, weigh, weight, tickets_in, Stays, Standing, Fits, HasNumber, HasSeen, IsLongest, IsIn, IsOut, Ruled}
+use Rattle.turn_lock.specs.Rule.{total, has_ticket, is_out, weigh, weight, tickets_in, has_entry, entries_in, Stays, Standing, Fits, HasNumber, HasSeen, IsLongest, IsIn, IsOut, Ruled}
 use Rattle.turn_lock.proofs.Members.{total_set, total_le, each_set, set_at}
 use Rattle.turn_lock.proofs.Stays.{out_has}
 
@@ -53,16 +53,26 @@ module _ {V L Q A : Type 0} (law_of : V → L) (party : Q → ℕ) (run : L → 
       go t (yes e) = let is : t.1 ≡ v = some-injective t.1 v (sym t.2 ∙ (ap (get_elem? views) e ∙ at)) in (id, w, set_at views id v w at, same (subst (HasSeen h) is t.3))
       go t (no n) = (t.0, t.1, set_else views id t.0 w n ∙ t.2, t.3)
 
+  -- a party's seat changes, and the maker's is where it was
+  pub maker_set : (made maker_seat p : ℕ) (views : List W) (id : ℕ) (v w : W) → get_elem? views id ≡ some v → v.role ≡ Party p
+      → (m : W) × (get_elem? views maker_seat ≡ some m) × (m.role ≡ Maker made) → (m : W) × (get_elem? (set views id w) maker_seat ≡ some m) × (m.role ≡ Maker made)
+  maker_set made maker_seat p views id v w at is (m, at_m, is_m) = (
+    m,
+    set_else views id maker_seat w (λ e. let same : m ≡ v = some-injective m v (sym at_m ∙ (ap (get_elem? views) e ∙ at)) in
+        let clash : Maker made ≡ Party p = sym is_m ∙ (ap (λ (z : W). z.role) same ∙ is) in cc) ∙ at_m,
+    is_m,
+  )
+
   -- a step of a party that leaves the history as it is
   pub restage : (s : St) (r : Rule s) (id p : ℕ) (v : W) (st : Stage) (sn : List (Entry Q A)) (served' drawn' : ℕ) (holder' : ℕ → ℕ) (words' : List ℕ) (homes' : Homes)
       → get_elem? s.views id ≡ some v → v.role ≡ Party p → IsPrefix sn r.history → own party p sn ≡ v.mine → (v.seen ≡ r.history → sn ≡ r.history)
-      → length words' ≡ 4 → get_or words' 1 0 ≡ drawn' % 2 ^ 64 → get_or words' 2 0 ≡ served' % 2 ^ 64 → get_or words' 3 0 ≡ length r.history % 2 ^ 64
-      → drawn' + has_ticket v.stage + r.served ≡ served' + has_ticket st + r.drawn
+      → length words' ≡ 3 → get_or words' 1 0 ≡ drawn' % 2 ^ 64 → get_or words' 2 0 ≡ served' % 2 ^ 64
+      → drawn' + has_ticket v.stage + r.served ≡ served' + has_ticket st + r.drawn → served' + has_entry st ≡ r.served + has_entry v.stage
       → ((j : ℕ) (d : W) → j ≢ id → get_elem? s.views j ≡ some d → Stays r.history served' drawn' holder' j d.seen d.stage)
       → Stays r.history served' drawn' holder' id sn st
       → IsIn law_of stands law r.history homes' (set s.views id (record v { stage = st; seen = sn })) ⊎ IsOut homes' (set s.views id (record v { stage = st; seen = sn }))
       → Rule record { words = words'; homes = homes'; views = set s.views id (record v { stage = st; seen = sn }) }
-  restage s r id p v st sn served' drawn' holder' words' homes' at is pre mine whole wide ticket serving count even others here value =
+  restage s r id p v st sn served' drawn' holder' words' homes' at is pre mine whole wide ticket serving even entry others here value =
       let w : W = record v { stage = st; seen = sn } in
       let known : Standing party r.history law r.made r.maker_seat r.owner id p v = subst (λ (x : Role). Fits party r.history law r.made r.maker_seat r.owner id v x) is (r.each id v at).0 in
       record {
@@ -76,10 +86,11 @@ module _ {V L Q A : Type 0} (law_of : V → L) (party : Q → ℕ) (run : L → 
         wide = wide;
         ticket_is = ticket;
         serving_is = serving;
-        count_is = count;
         tickets = let t = total_set tickets_in s.views id v w at in let d = r.tickets in omega arith;
+        entries = let t = total_set entries_in s.views id v w at in let d = r.entries in omega arith;
         few = r.few;
         weights = let t = total_set (weight n) s.views id v w at in let d = r.weights in omega arith;
+        maker = maker_set r.made r.maker_seat p s.views id v w at is r.maker;
         runs = r.runs;
         longest = longest_set r.history s.views id v w at (⊎_elim (λ (e : v.seen ≡ r.history). inl (whole e)) inr) r.longest;
         others = r.others;
@@ -93,6 +104,7 @@ module _ {V L Q A : Type 0} (law_of : V → L) (party : Q → ℕ) (run : L → 
             mine_seen = mine;
             mine = known.mine;
             joined = known.joined;
+            once = known.once;
           },
           here,
         )
@@ -160,9 +172,9 @@ module _ {V L Q A : Type 0} (law_of : V → L) (party : Q → ℕ) (run : L → 
   few_tickets s r = let a = total_le tickets_in (weight n) s.views (λ j v e. ticket_weighs r.history r.made r.maker_seat r.owner j v v.role (r.each j v e).0) in let b = r.weights in omega arith
 
   -- a load by a party that leaves the history and the value where they are
-  pub reload : (s : St) (r : Rule s) (i id p : ℕ) (v : W) (st : Stage) → get_elem? s.views id ≡ some v → v.role ≡ Party p → has_ticket v.stage ≡ has_ticket st → is_out v.stage ≡ false → is_out st ≡ false
+  pub reload : (s : St) (r : Rule s) (i id p : ℕ) (v : W) (st : Stage) → get_elem? s.views id ≡ some v → v.role ≡ Party p → has_ticket v.stage ≡ has_ticket st → has_entry v.stage ≡ has_entry st → is_out v.stage ≡ false → is_out st ≡ false
       → Stays r.history r.served r.drawn r.holder id v.seen st → Rule record { words = set s.words i (get_or s.words i 0); homes = s.homes; views = set s.views id (record v { stage = st }) }
-  reload s r i id p v st at is same away away' here = let known = knows s r id p v at is in
+  reload s r i id p v st at is same same_e away away' here = let known = knows s r id p v at is in
       restage s r id p v st v.seen r.served r.drawn r.holder (set s.words i (get_or s.words i 0)) s.homes at is known.seen known.mine_seen (λ e. e)
-      (length-set s.words i _ ∙ r.wide) (same_words s.words i 1 ∙ r.ticket_is) (same_words s.words i 2 ∙ r.serving_is) (same_words s.words i 3 ∙ r.count_is)
-      (omega arith) (λ j d other e. (r.each j d e).1) here (value_stays s r id v _ at away away')
+      (length-set s.words i _ ∙ r.wide) (same_words s.words i 1 ∙ r.ticket_is) (same_words s.words i 2 ∙ r.serving_is)
+      (omega arith) (omega arith) (λ j d other e. (r.each j d e).1) here (value_stays s r id v _ at away away')

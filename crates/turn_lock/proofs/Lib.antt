@@ -15,3 +15,5 @@ pub mod Start
 pub mod Close
 pub mod Seats
 pub mod SumLists
+pub mod Apart
+pub mod Parts

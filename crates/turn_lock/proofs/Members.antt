@@ -17,6 +17,10 @@ module _ {X : Type 0} where
   total_le f g [] h = omega arith
   total_le f g (x ∷ xs) h = let a : f x ≤ g x = h 0 x refl in let b = total_le f g xs (λ j v e. h (suc j) v e) in omega arith
 
+  pub total_none : (f : X → ℕ) (l : List X) → ((j : ℕ) (v : X) → get_elem? l j ≡ some v → f v ≡ 0) → total f l ≡ 0
+  total_none f [] h = refl
+  total_none f (x ∷ xs) h = let a = h 0 x refl in let b = total_none f xs (λ j v e. h (suc j) v e) in omega arith
+
   -- one member's share of a sum
   pub total_has : (f : X → ℕ) (l : List X) (i : ℕ) (v : X) → get_elem? l i ≡ some v → f v ≤ total f l
   total_has f [] i v e = absurd (some-ne-none v (sym e))

@@ -8,7 +8,7 @@ use Rattle.turn_lock.specs.declared.view.Role.TheVariants.{Party}
 use Rattle.turn_lock.specs.declared.view.Stage.TheVariants.{Idle, Home}
 use Rattle.turn_lock.specs.declared.view.View.{View}
 use Rattle.turn_lock.specs.Passes.{Pass}
-use Rattle.turn_lock.specs.Rule.{has_ticket, is_out, Ruled}
+use Rattle.turn_lock.specs.Rule.{has_ticket, has_entry, is_out, Ruled}
 use Rattle.turn_lock.specs.Steps.{seated, passed}
 use Rattle.turn_lock.proofs.Stays.{stays_passed}
 use Rattle.turn_lock.proofs.Keeps.{restage, knows, stage_is, value_stays}
@@ -42,8 +42,8 @@ module _ {V L Q A : Type 0} (law_of : V → L) (party : Q → ℕ) (run : L → 
             (length-set s.words 2 _ ∙ r.wide)
             (get_or-set_other s.words 2 1 _ 0 (λ z. omega arith) ∙ r.ticket_is)
             (get_or-set_same s.words 2 ((get_or s.words 2 0 + 1) % 2 ^ 64) 0 (omega arith) ∙ (let u = r.serving_is in omega arith))
-            (get_or-set_other s.words 2 3 _ 0 (λ z. omega arith) ∙ r.count_is)
             (let h : has_ticket me.0.stage ≡ 1 = ap has_ticket home in omega arith)
+            (let h : has_entry me.0.stage ≡ 1 = ap has_entry home in omega arith)
             (λ j d other there. stays_passed r.history r.history r.served r.drawn r.holder id j d.seen d.stage his other (r.each j d there).1)
             tt
             (value_stays law_of party run stands law n s r id me.0 _ at (ap is_out home) refl),

@@ -12,9 +12,9 @@ use Rattle.turn_lock.specs.declared.view.Role.{Role}
 use Rattle.turn_lock.specs.declared.view.Role.TheVariants.{Maker, Party, Spent}
 use Rattle.turn_lock.specs.declared.view.View.{View}
 use Rattle.turn_lock.specs.Passes.{Pass}
-use Rattle.turn_lock.specs.Rule.{is_out, weigh, weight, tickets_in, made_of, Stays, Making, Fits, HasSeen, IsIn, IsOut, Ruled}
+use Rattle.turn_lock.specs.Rule.{is_out, weigh, weight, tickets_in, entries_in, made_of, Stays, Making, Fits, HasSeen, IsIn, IsOut, Ruled}
 use Rattle.turn_lock.specs.Steps.{dealt, newcomer}
-use Rattle.turn_lock.proofs.Members.{total_set, total_snoc, each_set, each_snoc, at_inside}
+use Rattle.turn_lock.proofs.Members.{total_set, total_snoc, each_set, each_snoc, set_at, at_inside}
 use Rattle.turn_lock.proofs.Owners.{put, put_here, put_else}
 use Rattle.turn_lock.proofs.Keeps.{kept_set, longest_set, value_stays}
 
@@ -49,6 +49,7 @@ module _ {V L Q A : Type 0} (law_of : V → L) (party : Q → ℕ) (run : L → 
     mine_seen = f.mine_seen;
     mine = f.mine;
     joined = λ i y e. let h = f.joined i y e in let l = h.0 in (omega arith, put_else owner made last y.number (λ z. omega arith) ∙ h.1, h.2, h.3, h.4);
+    once = f.once;
   }
   dealt_known history made maker_seat last j owner d Spent other f = record { idle = f.idle }
 
@@ -77,6 +78,7 @@ module _ {V L Q A : Type 0} (law_of : V → L) (party : Q → ℕ) (run : L → 
           mine_seen = refl;
           mine = r.others r.made (omega arith);
           joined = λ i y e. absurd (some-ne-none y (sym e));
+          once = λ q. omega arith;
         },
         tt,
       ) in
@@ -99,11 +101,12 @@ module _ {V L Q A : Type 0} (law_of : V → L) (party : Q → ℕ) (run : L → 
         wide = r.wide;
         ticket_is = r.ticket_is;
         serving_is = r.serving_is;
-        count_is = r.count_is;
         tickets = let t = total_set tickets_in s.views id v w at in let u = total_snoc tickets_in (set s.views id w) x in let d = r.tickets in omega arith;
+        entries = let t = total_set entries_in s.views id v w at in let u = total_snoc entries_in (set s.views id w) x in let d = r.entries in omega arith;
         few = omega arith;
         weights = let t = total_set (weight n) s.views id v w at in let u = total_snoc (weight n) (set s.views id w) x in let d = r.weights in
             let a : weight n v ≡ n - m = ap (weigh n (length v.joined)) is in let b : weight n w ≡ n - (r.made + 1) = ap (weigh n (length v.joined)) w_role in let e : weight n x ≡ 1 = ap (weigh n 0) x_role in omega arith;
+        maker = (w, at_longer (set s.views id w) (x ∷ []) r.maker_seat w (ap (get_elem? (set s.views id w)) (sym known.seat_is) ∙ set_at s.views id v w at), w_role);
         runs = r.runs;
         longest = ⊎_elim inl (λ (t : (j : ℕ) × (d : W) × (get_elem? (set s.views id w) j ≡ some d) × HasSeen r.history d). inr (t.0, t.1, at_longer (set s.views id w) (x ∷ []) t.0 t.1 t.2, t.3)) (longest_set law_of party run stands law n r.history s.views id v w at (λ h. h) r.longest);
         others = λ q far. r.others q (omega arith);

@@ -29,7 +29,7 @@ module _ {V L Q A : Type 0} (law_of : V → L) (party : Q → ℕ) (run : L → 
   abbrev Rule : St → Type 0
   Rule = Ruled law_of party run stands law n
 
-  pub starts : (x : V) → stands x [] → run law [] → law_of x ≡ law → Rule (opening (0 ∷ 0 ∷ 0 ∷ 0 ∷ []) (Some x ∷ []) (maker law 0))
+  pub starts : (x : V) → stands x [] → run law [] → law_of x ≡ law → Rule (opening (0 ∷ 0 ∷ 0 ∷ []) (Some x ∷ []) (maker law 0))
   starts x stood ran is = record {
     history = [];
     served = 0;
@@ -41,10 +41,11 @@ module _ {V L Q A : Type 0} (law_of : V → L) (party : Q → ℕ) (run : L → 
     wide = refl;
     ticket_is = refl;
     serving_is = refl;
-    count_is = refl;
     tickets = refl;
+    entries = refl;
     few = omega arith;
     weights = omega arith;
+    maker = (maker law 0, refl, refl);
     runs = ran;
     longest = inl refl;
     others = λ q far. refl;
@@ -54,5 +55,5 @@ module _ {V L Q A : Type 0} (law_of : V → L) (party : Q → ℕ) (run : L → 
     value = inl (x, refl, stood, is, each_snoc (λ (j : ℕ) (d : W). is_out d.stage ≡ false) [] (maker law 0) refl (λ j d e. absurd (some-ne-none d (sym e))));
   }
 
-  pub starts_from : (slots : List (Option V)) (x : V) → slots ≡ Some x ∷ [] → stands x [] → run (law_of x) [] → law ≡ law_of x → Rule (opening (0 ∷ 0 ∷ 0 ∷ 0 ∷ []) slots (maker law 0))
-  starts_from slots x e stood ran is = subst (λ (z : List (Option V)). Rule (opening (0 ∷ 0 ∷ 0 ∷ 0 ∷ []) z (maker law 0))) (sym e) (starts x stood (subst (λ (l : L). run l []) (sym is) ran) (sym is))
+  pub starts_from : (slots : List (Option V)) (x : V) → slots ≡ Some x ∷ [] → stands x [] → run (law_of x) [] → law ≡ law_of x → Rule (opening (0 ∷ 0 ∷ 0 ∷ []) slots (maker law 0))
+  starts_from slots x e stood ran is = subst (λ (z : List (Option V)). Rule (opening (0 ∷ 0 ∷ 0 ∷ []) z (maker law 0))) (sym e) (starts x stood (subst (λ (l : L). run l []) (sym is) ran) (sym is))

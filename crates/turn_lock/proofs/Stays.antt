@@ -1,8 +1,8 @@
 -- A seat's stage stays right while another steps.
-use Rattle.std.proofs.Common.{◌≡◌, ◌≢◌, ℕ, ◌+◌, true, List, sym, ap, ◌∙◌, arith}
+use Rattle.std.proofs.Common.{◌≡◌, ◌≢◌, ℕ, ◌+◌, ◌≤◌, true, List, sym, ap, ◌∙◌, arith}
 use Rattle.turn_lock.specs.declared.view.Stage.{Stage}
 use Rattle.turn_lock.specs.declared.view.Stage.TheVariants.{Idle, Waiting, Turn, Out, Counted, Home}
-use Rattle.turn_lock.specs.Rule.{is_out, Stays}
+use Rattle.turn_lock.specs.Rule.{has_entry, is_out, Stays}
 use Rattle.turn_lock.proofs.Owners.{put, put_else}
 
 module _ {E : Type 0} where
@@ -44,3 +44,12 @@ module _ {E : Type 0} where
   out_has history served drawn holder seat seen (Out t) o k = ap holder (sym k.0) ∙ k.2
   out_has history served drawn holder seat seen (Counted t) o k = ap holder (sym k.0) ∙ k.2
   out_has history served drawn holder seat seen (Home t) o k = cc
+
+  -- and so has who has an entry whose ticket is served
+  pub entry_has : (history : List E) (served drawn : ℕ) (holder : ℕ → ℕ) (seat : ℕ) (seen : List E) (st : Stage) → 1 ≤ has_entry st → Stays history served drawn holder seat seen st → holder served ≡ seat
+  entry_has history served drawn holder seat seen Idle o k = absurd (omega arith)
+  entry_has history served drawn holder seat seen (Waiting t) o k = absurd (omega arith)
+  entry_has history served drawn holder seat seen (Turn t) o k = absurd (omega arith)
+  entry_has history served drawn holder seat seen (Out t) o k = absurd (omega arith)
+  entry_has history served drawn holder seat seen (Counted t) o k = ap holder (sym k.0) ∙ k.2
+  entry_has history served drawn holder seat seen (Home t) o k = ap holder (sym k.0) ∙ k.2

@@ -10,7 +10,7 @@ use Rattle.turn_lock.specs.declared.view.Stage.TheVariants.{Turn, Out}
 use Rattle.turn_lock.specs.declared.view.View.{View}
 use Rattle.turn_lock.specs.Entries.{IsPrefix, own}
 use Rattle.turn_lock.specs.Passes.{Pass}
-use Rattle.turn_lock.specs.Rule.{has_ticket, is_out, Ruled}
+use Rattle.turn_lock.specs.Rule.{has_ticket, has_entry, is_out, Ruled}
 use Rattle.turn_lock.specs.Steps.{seated, shown, took}
 use Rattle.turn_lock.proofs.Members.{set_at}
 use Rattle.turn_lock.proofs.Keeps.{restage, knows, stage_is, is_in, same_words}
@@ -42,8 +42,8 @@ module _ {V L Q A : Type 0} (law_of : V → L) (party : Q → ℕ) (run : L → 
         takes 0 (Some i.0),
         ap (λ (hs : Homes). get_elem? hs 0) i.1,
         restage law_of party run stands law n s r id p.number me.0 (Out t) r.history r.served r.drawn r.holder (set s.words 2 (get_or s.words 2 0)) (set s.homes 0 none) at is ([], sym (append-nil r.history)) known.mine (λ z. refl)
-            (length-set s.words 2 _ ∙ r.wide) (same_words law_of party run stands law n s.words 2 1 ∙ r.ticket_is) (same_words law_of party run stands law n s.words 2 2 ∙ r.serving_is) (same_words law_of party run stands law n s.words 2 3 ∙ r.count_is)
-            (let h : has_ticket me.0.stage ≡ 1 = ap has_ticket turn in omega arith) (λ j d other there. (r.each j d there).1) (k.0, k.1, k.2, refl)
+            (length-set s.words 2 _ ∙ r.wide) (same_words law_of party run stands law n s.words 2 1 ∙ r.ticket_is) (same_words law_of party run stands law n s.words 2 2 ∙ r.serving_is)
+            (let h : has_ticket me.0.stage ≡ 1 = ap has_ticket turn in omega arith) (let h : has_entry me.0.stage ≡ 0 = ap has_entry turn in omega arith) (λ j d other there. (r.each j d there).1) (k.0, k.1, k.2, refl)
             (inr (ap (λ (hs : Homes). set hs 0 none) i.1, (id, w, set_at s.views id me.0 w at, refl))),
         λ p' t' e'.
             let same_t : t ≡ t' = (let q : Turn t ≡ Turn t' = sym turn ∙ ap (λ (x : M). x.0.stage) e' in cc) in

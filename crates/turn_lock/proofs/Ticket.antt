@@ -8,7 +8,7 @@ use Rattle.turn_lock.specs.declared.view.Role.TheVariants.{Party}
 use Rattle.turn_lock.specs.declared.view.Stage.TheVariants.{Idle, Waiting}
 use Rattle.turn_lock.specs.declared.view.View.{View}
 use Rattle.turn_lock.specs.Passes.{Pass}
-use Rattle.turn_lock.specs.Rule.{has_ticket, is_out, Ruled}
+use Rattle.turn_lock.specs.Rule.{has_ticket, has_entry, is_out, Ruled}
 use Rattle.turn_lock.specs.Steps.{seated, drew}
 use Rattle.turn_lock.proofs.Owners.{put, put_here}
 use Rattle.turn_lock.proofs.Stays.{stays_drawn}
@@ -42,8 +42,8 @@ module _ {V L Q A : Type 0} (law_of : V → L) (party : Q → ℕ) (run : L → 
         (length-set s.words 1 _ ∙ r.wide)
         (get_or-set_same s.words 1 ((get_or s.words 1 0 + 1) % 2 ^ 64) 0 (omega arith) ∙ (let t = r.ticket_is in omega arith))
         (get_or-set_other s.words 1 2 _ 0 (λ z. omega arith) ∙ r.serving_is)
-        (get_or-set_other s.words 1 3 _ 0 (λ z. omega arith) ∙ r.count_is)
         (let h : has_ticket me.0.stage ≡ 0 = ap has_ticket staged in omega arith)
+        (let h : has_entry me.0.stage ≡ 0 = ap has_entry staged in omega arith)
         (λ j d other there. stays_drawn r.history r.served r.drawn r.holder id j d.seen d.stage (r.each j d there).1)
         (let t = r.tickets in omega arith, omega arith, put_here r.holder r.drawn id)
         (value_stays law_of party run stands law n s r id me.0 _ at (ap is_out staged) refl),

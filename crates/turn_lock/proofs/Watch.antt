@@ -11,7 +11,7 @@ use Rattle.turn_lock.specs.declared.view.Role.TheVariants.{Party}
 use Rattle.turn_lock.specs.declared.view.Stage.TheVariants.{Waiting, Turn}
 use Rattle.turn_lock.specs.declared.view.View.{View}
 use Rattle.turn_lock.specs.Passes.{Pass}
-use Rattle.turn_lock.specs.Rule.{has_ticket, is_out, Ruled}
+use Rattle.turn_lock.specs.Rule.{has_ticket, has_entry, is_out, Ruled}
 use Rattle.turn_lock.specs.Steps.{seated, watched}
 use Rattle.turn_lock.proofs.Keeps.{stage_is, few_tickets, reload}
 
@@ -42,13 +42,13 @@ module _ {V L Q A : Type 0} (law_of : V → L) (party : Q → ℕ) (run : L → 
         record me.0 { stage = Turn t },
         keeps,
         tt,
-        reload law_of party run stands law n s r 2 id p.number me.0 (Turn t) at is (ap has_ticket waits) (ap is_out waits) refl (sym now, k.1, k.2),
+        reload law_of party run stands law n s r 2 id p.number me.0 (Turn t) at is (ap has_ticket waits) (ap has_entry waits) (ap is_out waits) refl (sym now, k.1, k.2),
         λ p' t' e'. ((λ _. ap (λ (z : M). let w : W = record z.0 { stage = Turn t } in (w, z.1)) e' ∙ ap (λ (z : ℕ). let w : W = seated p' (Turn z) in let c : List (ℕ × Option V) = [] in (w, c)) (same p' t' e')), (λ miss. absurd (miss (hit ∙ ap (λ (z : ℕ). z % 2 ^ 64) (same p' t' e'))))),
       ))
       (λ miss. (
         me.0,
         keeps,
         tt,
-        reload law_of party run stands law n s r 2 id p.number me.0 me.0.stage at is refl (ap is_out waits) (ap is_out waits) (r.each id me.0 at).1,
+        reload law_of party run stands law n s r 2 id p.number me.0 me.0.stage at is refl refl (ap is_out waits) (ap is_out waits) (r.each id me.0 at).1,
         λ p' t' e'. ((λ hit. absurd (miss (hit ∙ ap (λ (z : ℕ). z % 2 ^ 64) (sym (same p' t' e'))))), (λ _. refl)),
       ))

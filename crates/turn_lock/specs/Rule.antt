@@ -1,5 +1,5 @@
 -- The rule of the lock's table.
-use Rattle.std.specs.Prelude.{◌≡◌, ◌≢◌, ◌⊎◌, ℕ, ◌+◌, ◌-◌, ◌%◌, ◌^◌, ◌<◌, ◌≤◌, Bool, true, false, List, [], ◌∷◌, length, slice_index, Option, Some}
+use Rattle.std.specs.Prelude.{◌≡◌, ◌≢◌, ◌⊎◌, ℕ, ◌+◌, ◌-◌, ◌%◌, ◌^◌, ◌<◌, ◌≤◌, ◌==◌, Bool, true, false, List, [], ◌∷◌, length, count_by, slice_index, Option, Some}
 use mathlib.Core.Option.{some, none}
 use mathlib.Core.Option as maybe
 use lib.ListN.{get_elem?}
@@ -26,6 +26,15 @@ has_ticket (Turn t) = 1
 has_ticket (Out t) = 1
 has_ticket (Counted t) = 1
 has_ticket (Home t) = 1
+
+-- how many entries a seat has in the history whose ticket is still served
+abbrev pub has_entry : Stage → ℕ
+has_entry Idle = 0
+has_entry (Waiting t) = 0
+has_entry (Turn t) = 0
+has_entry (Out t) = 0
+has_entry (Counted t) = 1
+has_entry (Home t) = 1
 
 -- whether the value is out with a seat
 abbrev pub is_out : Stage → Bool
@@ -57,6 +66,9 @@ weigh n k Spent = 0
 abbrev pub tickets_in : {L Q A : Type 0} → View L Q A → ℕ
 tickets_in v = has_ticket v.stage
 
+abbrev pub entries_in : {L Q A : Type 0} → View L Q A → ℕ
+entries_in v = has_entry v.stage
+
 abbrev pub weight : {L Q A : Type 0} → ℕ → View L Q A → ℕ
 weight n v = weigh n (length v.joined) v.role
 
@@ -79,7 +91,9 @@ module _ {L Q A : Type 0} (party : Q → ℕ) (history : List (Entry Q A)) (law 
     pub seen : IsPrefix v.seen history
     pub mine_seen : own party p v.seen ≡ v.mine
     pub mine : own party p history ≡ v.mine
+    -- the numbers that were joined into it are its alone, none is its own, and none was joined twice
     pub joined : (i : ℕ) (j : Joined Q A) → get_elem? v.joined i ≡ some j → (j.number < made) × (owner j.number ≡ seat) × (own party j.number history ≡ j.mine) × (j.number ≢ p) × IsPrefix j.seen history
+    pub once : (q : ℕ) → count_by (λ (j : Joined Q A). q == j.number) v.joined ≤ 1
 
   -- what the maker knows, who has dealt m passes
   pub record Making (m : ℕ) (v : View L Q A) : Type 0 where
@@ -132,15 +146,18 @@ module _ {V L Q A : Type 0} (law_of : V → L) (party : Q → ℕ) (run : L → 
     pub holder : ℕ → ℕ
     pub owner : ℕ → ℕ
     -- the words
-    pub wide : length s.words ≡ 4
+    pub wide : length s.words ≡ 3
     pub ticket_is : slice_index s.words 1 ≡ drawn % 2 ^ 64
     pub serving_is : slice_index s.words 2 ≡ served % 2 ^ 64
-    pub count_is : slice_index s.words 3 ≡ length history % 2 ^ 64
     -- the views with a ticket are as many as were drawn and not served
     pub tickets : drawn ≡ served + total tickets_in s.views
+    -- each ticket that was served has an entry, and so has the one that is, once its view has added it
+    pub entries : length history ≡ served + total entries_in s.views
     -- the numbers that the views stand for are all n
     pub few : made ≤ n
     pub weights : total (weight n) s.views ≡ n
+    -- there is exactly one maker: this view is one, and by `Making` each maker sits in this seat
+    pub maker : (v : View L Q A) × (get_elem? s.views maker_seat ≡ some v) × (v.role ≡ Maker made)
     pub runs : run law history
     pub longest : IsLongest history s.views
     -- a party whose pass was not dealt has no entry, and any other has a view

@@ -1,7 +1,6 @@
 -- The views of a seat, and what each step tells.
 use Rattle.std.specs.Prelude.{◌≡◌, ◌≢◌, ℕ, ◌+◌, ◌%◌, ◌^◌, ◌<◌, List, [], ◌∷◌, ◌++◌, map, length, Option, Some}
 use Rattle.std.proofs.Math.Nat.{lt_irrefl}
-use Rattle.atomic_table.specs.Seated.{TableId}
 use Rattle.atomic_table.specs.Table.{Me, Step}
 use Rattle.turn_lock.specs.declared.kept.Entry.{Entry}
 use Rattle.turn_lock.specs.declared.view.Role.TheVariants.{Maker, Party, Spent}
@@ -10,7 +9,7 @@ use Rattle.turn_lock.specs.declared.view.Stage.TheVariants.{Idle, Waiting, Turn,
 use Rattle.turn_lock.specs.declared.view.Joined.{Joined}
 use Rattle.turn_lock.specs.declared.view.View.{View}
 use Rattle.turn_lock.specs.Entries.{own, IsPrefix}
-use Rattle.turn_lock.specs.Passes.{Pass}
+use Rattle.turn_lock.specs.Passes.{LockId, Pass}
 use Rattle.turn_lock.specs.Rule.{made_of, number_of}
 
 -- the first of a list that is not empty
@@ -25,6 +24,11 @@ module _ {L Q A : Type 0} where
 
   abbrev pub spent : View L Q A
   spent = record { law = []; role = Spent; stage = Idle; seen = []; mine = []; joined = [] }
+
+  -- what a badge knows, or nothing
+  abbrev pub knows : List (View L Q A) → View L Q A
+  knows [] = spent
+  knows (v ∷ vs) = v
 
   -- a split leaves the maker with this
   abbrev pub dealt : View L Q A → View L Q A
@@ -53,11 +57,15 @@ module _ {L Q A : Type 0} where
   abbrev pub longer : Pass L Q A → List (Entry Q A) → Pass L Q A
   longer p es = record p { seen = p.seen ++ es; mine = p.mine ++ es }
 
-module _ {S L Q A : Type 0} where
-  -- the pass that has this number and this seat
-  abbrev pub pass_at : TableId → ℕ → (m : Me S (View L Q A)) → 0 < length m.0.law → Pass L Q A
-  pass_at lock number m lawful = record { lock = lock; number = number; law = the_first m.0.law lawful; seen = m.0.seen; mine = m.0.mine }
+  -- the pass that has this number and this badge
+  abbrev pub pass_at : LockId → ℕ → (views : List (View L Q A)) → 0 < length (knows views).law → Pass L Q A
+  pass_at lock number views lawful = record { lock = lock; number = number; law = the_first (knows views).law lawful; seen = (knows views).seen; mine = (knows views).mine }
 
+  -- the badge is that of a seat with no ticket
+  abbrev pub RestsAs : Pass L Q A → List (View L Q A) → Type 0
+  RestsAs p views = views ≡ seated p Idle ∷ []
+
+module _ {S L Q A : Type 0} where
   -- the seat has no ticket, and nothing of the table is out with it
   abbrev pub IsAtRest : Pass L Q A → Me S (View L Q A) → Type 0
   IsAtRest p m = m ≡ (seated p Idle, [])
@@ -77,7 +85,7 @@ module _ {S L Q A : Type 0} where
   watched st m n m' = (p : Pass L Q A) (t : ℕ) → m ≡ (seated p (Waiting t), [])
       → (n ≡ t % 2 ^ 64 → m' ≡ (seated p (Turn t), [])) × (n ≢ t % 2 ^ 64 → m' ≡ m)
 
-  -- the entry was counted, and the number found is that of the entries before it
+  -- the entry is in the history, and the number found is that of the entries before it
   abbrev pub counted : List (Entry Q A) → Step S → Me S (View L Q A) → ℕ → Me S (View L Q A) → Type 0
   counted es st m n m' = (p : Pass L Q A) (t : ℕ) (c : List (ℕ × S)) → m ≡ (seated p (Out t), c)
       → (m' ≡ (seated (longer p es) (Counted t), c)) × (n ≡ length p.seen % 2 ^ 64)
@@ -101,3 +109,11 @@ module _ {V L Q A : Type 0} (law_of : V → L) (party : Q → ℕ) (run : L → 
   abbrev pub took : Step (Option V) → Me (Option V) (View L Q A) → ℕ → Me (Option V) (View L Q A) → Type 0
   took st m n m' = (p : Pass L Q A) (t : ℕ) → m ≡ (seated p (Turn t), [])
       → (x : V) × (h : List (Entry Q A)) × (m' ≡ (seated (shown p h) (Out t), (0, Some x) ∷ [])) × StandsFor x h p
+
+module _ {V L Q A : Type 0} (law_of : V → L) (run : L → List (Entry Q A) → Type 0) (used : L → List (Entry Q A) → ℕ → ℕ) (stands : V → List (Entry Q A) → Type 0) where
+  -- the value x became y by a step that was handed this moment and made this entry
+  pub record StepsBy (x y : V) (handed : ℕ) (e : Entry Q A) : Type 0 where
+    pub law : law_of y ≡ law_of x
+    pub stood : (h : List (Entry Q A)) → stands x h → run (law_of x) h → stands y (h ++ e ∷ [])
+    pub runs : (h : List (Entry Q A)) → stands x h → run (law_of x) h → run (law_of x) (h ++ e ∷ [])
+    pub moment : (h : List (Entry Q A)) → stands x h → run (law_of x) h → e.used ≡ used (law_of x) h handed

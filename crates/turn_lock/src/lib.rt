@@ -14,4 +14,5 @@ mod turns;
 mod view;
 
 pub use kept::{Entry, Kept, Stepped};
-pub use turns::{Answered, NoMemory, TurnPass, Turns};
+pub use no_memory::NoMemory;
+pub use turns::{Answered, PartyPass, TurnPass, Turns};

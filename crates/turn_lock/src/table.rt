@@ -9,11 +9,8 @@ use std::snapshot::Snapshot;
 /// The word of the next ticket. Word 0 is read by split and join alone.
 pub(crate) const TICKET: usize = 1;
 
-/// The word of the ticket that is served.
+/// The word of the ticket that is served, which is the number of the calls that are over.
 pub(crate) const SERVING: usize = 2;
-
-/// The word that counts the calls.
-pub(crate) const CALLS: usize = 3;
 
 /// The slot of the value.
 pub(crate) const VALUE: usize = 0;
@@ -41,7 +38,7 @@ impl<V: Kept> TableRule<Option<V>, View<V::Law, V::Request, V::Answer>, Opening<
     ghost first = { λ key. maker (V.law key.value.value) 0 };
 }
 
-/// Four words, and one slot with the value.
+/// Three words, and one slot with the value.
 pub(crate) type LockTable<V: Kept> = Table<
     Option<V>,
     View<V::Law, V::Request, V::Answer>,
@@ -97,7 +94,7 @@ impl<Q, A> Saying<Q, A> for Brand {
     ghost said = { [] };
 }
 
-/// Raises the word of calls: the entry is in the history.
+/// Loads the serving word: the entry is in the history.
 pub(crate) struct Count<J> {
     of: PhantomData<J>,
 }

@@ -1,8 +1,9 @@
 //! The lock round a sum, in one thread and in several.
-ghost use Rattle.std.specs.Prelude.{◌≡◌, All, vec_len};
+ghost use Rattle.std.specs.Prelude.{◌≡◌, All, vec_len, IfOk};
 
 use crate::sum::{Addend, Sum};
 use crate::{Answered, Kept, Stepped, TurnPass, Turns};
+use std::alloc::AllocError;
 use std::sync::Wait;
 use std::test::Fail;
 use std::thread::{Threads, join, map_vec};
@@ -51,7 +52,7 @@ fn both_ask<R: Threads + Wait + Sync>(
     mut passes: Vec<TurnPass<Sum>>,
     times: u32,
 ) -> (u64, u64)
-    requires parties { lock.parties ≡ 2 }
+    requires parties { lock.id.parties ≡ 2 }
     requires count { vec_len passes ≡ 2 }
     requires lock { All (λ p. p.lock ≡ lock.id) passes.items }
 {
@@ -172,6 +173,79 @@ fn a_value_comes_back_that_may_not_be_dropped(rt: HostRuntime) {
             passes.push_reserved(pass);
             let (value, calls) = lock.close(passes);
             assert_eq!(rt; (value.open(), calls), (1, 1));
+        }
+        Err((_, value)) => assert_eq!(rt; value.open(), 0),
+    }
+}
+
+// Asks once.
+fn ask_once<R: Wait>(rt: &R, lock: &Turns<Sealed>, mut pass: TurnPass<Sealed>) -> TurnPass<Sealed>
+    requires { pass.lock ≡ lock.now.id }
+    ensures { result.lock ≡ pass.lock }
+{
+    let party = pass.number();
+    lock.ask(rt, &mut pass, &party, 0);
+    pass
+}
+
+// A pass, and a list of passes, may be let go, also on an early way out.
+fn let_go(
+    pass: TurnPass<Sealed>,
+    _others: Vec<TurnPass<Sealed>>,
+    said: Option<u32>,
+) -> Option<u32> {
+    let number = said?;
+    Some(number ^ pass.number())
+}
+
+// Each pass goes to a thread of its own, and comes back.
+fn all_ask<R: Threads + Wait + Sync>(
+    rt: &R,
+    lock: &Turns<Sealed>,
+    passes: Vec<TurnPass<Sealed>>,
+) -> Result<Vec<TurnPass<Sealed>>, AllocError>
+    requires lock { All (λ p. p.lock ≡ lock.now.id) passes.items }
+    ensures count { IfOk result (λ r. vec_len r ≡ vec_len passes) }
+    ensures lock { IfOk result (λ r. All (λ p. p.lock ≡ lock.now.id) r.items) }
+{
+    let asking = |pass: TurnPass<Sealed>| -> TurnPass<Sealed>
+        requires { pass.lock ≡ lock.now.id }
+        ensures { result.lock ≡ pass.lock }
+    { ask_once(rt, lock, pass) };
+    map_vec(rt, passes, &asking)
+}
+
+// The same, where every pass has a thread, and then all are taken in.
+fn two_ask<R: Threads + Wait + Sync>(
+    rt: &R,
+    lock: Turns<Sealed>,
+    mut passes: Vec<TurnPass<Sealed>>,
+) -> (u64, u64)
+    requires parties { lock.id.parties ≡ 2 }
+    requires count { vec_len passes ≡ 2 }
+    requires lock { All (λ p. p.lock ≡ lock.id) passes.items }
+{
+    let second = passes.pop().unwrap();
+    let first = passes.pop().unwrap();
+    let shared = &lock;
+    let (first, second) = join(
+        rt,
+        move || ask_once(rt, shared, first),
+        move || ask_once(rt, shared, second),
+    );
+    passes.push_reserved(first);
+    passes.push_reserved(second);
+    let (value, calls) = lock.close(passes);
+    (value.open(), calls)
+}
+
+#[test]
+fn threads_own_passes_of_a_value_that_may_not_be_dropped(rt: HostRuntime) {
+    match Turns::make(rt.alloc(), Sealed { steps: 0 }, 2) {
+        Ok((lock, passes)) => {
+            let passes = all_ask(&rt, &lock, passes).expect(&rt, "no memory");
+            let told = two_ask(&rt, lock, passes);
+            assert_eq!(rt; told, (4, 4));
         }
         Err((_, value)) => assert_eq!(rt; value.open(), 0),
     }

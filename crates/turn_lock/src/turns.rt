@@ -1,26 +1,41 @@
 //! The lock and its passes.
-ghost use Rattle.std.specs.Prelude.{◌≡◌, ℕ, ◌%◌, ◌^◌, ◌<◌, ◌≤◌, List, [], ◌∷◌, ◌++◌, length, Some, None, IfOk, IfErr, EachIndex, vec_len, vec_capacity, All, slice_get};
+ghost use Rattle.std.specs.Prelude.{◌≡◌, ℕ, ◌%◌, ◌^◌, ◌<◌, ◌≤◌, List, [], ◌∷◌, ◌++◌, length, Some, IfOk, IfErr, EachIndex, vec_len, vec_capacity, All, slice_get};
 ghost use Rattle.turn_lock.specs.declared.kept.Entry.{Entry};
 ghost use Rattle.turn_lock.specs.declared.view.Stage.TheVariants.{Idle, Turn, Out, Counted};
 ghost use Rattle.turn_lock.specs.Entries.{entry, own};
 ghost use Rattle.turn_lock.specs.Passes.{Pass, Closes, unused};
-ghost use Rattle.turn_lock.specs.Steps.{maker, seated, shown, longer, StandsFor, IsAtRest, IsGathered};
+ghost use Rattle.turn_lock.specs.Steps.{knows, maker, seated, shown, longer, StandsFor, StepsBy, IsAtRest, IsGathered};
 
 use crate::kept::{Kept, Stepped};
 use crate::table::{
-    CALLS, Count, Deal, Draw, Gather, Give, InTurn, LockSeat, LockTable, Next, Opening, SERVING,
-    Saying, TICKET, Take, VALUE, Watch,
+    Count, Deal, Draw, Gather, Give, InTurn, LockSeat, LockTable, Next, Opening, SERVING, Saying,
+    TICKET, Take, VALUE, Watch,
 };
-use atomic_table::{Refused, Table};
+use crate::view::View;
+use atomic_table::{Badge, Refused, Seat, Table};
+use no_memory::NoMemory;
 use std::alloc::Global;
 use std::marker::{Brand, Model};
 use std::snapshot::Snapshot;
 use std::sync::Wait;
-use std::thread;
+use std::time::Duration;
+use std::{hint, mem, thread};
 
-/// There was no memory.
-#[derive(Debug, Drop)]
-pub struct NoMemory;
+// Who waits looks again at once in the first rounds, lets another thread run in the next, and then sleeps.
+const SPINS: u32 = 20;
+
+const YIELDS: u32 = 80;
+
+// The first sleep, in microseconds. Each further one is twice as long, up to the longest.
+const FIRST_NAP: u64 = 50;
+
+const LONGEST_NAP: u64 = 1_000;
+
+// How often a sleep doubles until it is as long as the longest.
+const DOUBLINGS: u32 = 5;
+
+// After so many rounds, about a third of a second, a caller draws its ticket all the same.
+const PATIENCE: u32 = 400;
 
 /// What a call through the lock gives.
 #[derive(Debug, Drop)]
@@ -35,7 +50,7 @@ pub struct Answered<A> {
 
 /// A value behind a ticket lock, which threads share by reference.
 ///
-/// Contracts see it as a `Lock`: its `id` tells it from other locks, `parties` is the number of its passes, from 1 to 256, and `law` is the value's law.
+/// Contracts see it as a `Lock`: its `id` tells it from other locks and says by `parties` how many passes it has, from 1 to 256, and `law` is the value's law.
 #[derive(Drop)]
 pub struct Turns<V: Kept> {
     table: LockTable<V>,
@@ -47,37 +62,44 @@ impl<V: Kept> Model for Turns<V> {
 
     ghost Value = { Lock V.Law };
 
-    ghost view = { λ t. record { id = t.table.shared.table_id; parties = t.parties; law = V.law t.table.shared.key.value.value } };
+    ghost view = { λ t. record { id = record { table = t.table.shared.table_id; parties = t.parties }; law = V.law t.table.shared.key.value.value } };
 
     ghost invariant = { λ t. IsSetUp t.table.shared.table_id t.table.shared.key.parties t.parties };
 }
 
-/// What a party asks with, of one lock. One thread at a time has it.
+/// What a party asks with, of one lock round a value of type `V`. One thread at a time has it.
+pub type TurnPass<V: Kept> = PartyPass<V::Law, V::Request, V::Answer>;
+
+/// A [`TurnPass`], in a type that names the value's law, requests and answers alone. So it may be let go also where the value may not.
 ///
 /// Contracts see it as a `Pass`: `lock` is the `id` of its lock, `number` is its party, `law` is the value's law, `seen` is the history up to its last call and `mine` is its party's part of that.
 #[derive(Drop)]
-pub struct TurnPass<V: Kept> {
+pub struct PartyPass<L, Q, A> {
     number: u32,
-    seat: LockSeat<V>,
-    // So that contracts can read the law from the seat's view.
-    ghost lawful: { 0 < length seat.me.0.law },
+    // How many passes its lock has.
+    parties: u32,
+    badge: Badge<View<L, Q, A>>,
+    ghost inside: { number < parties },
+    // So that contracts can read the law from the badge's view.
+    ghost lawful: { 0 < length (knows badge.views).law },
 }
 
-impl<V: Kept> Model for TurnPass<V> {
+impl<L, Q, A> Model for PartyPass<L, Q, A> {
     ghost use Rattle.turn_lock.specs.Passes.{Pass};
-    ghost use Rattle.turn_lock.specs.Steps.{pass_at, IsAtRest};
+    ghost use Rattle.turn_lock.specs.Steps.{pass_at, RestsAs};
 
-    ghost Value = { Pass V.Law V.Request V.Answer };
+    ghost Value = { Pass L Q A };
 
-    ghost view = { λ p. pass_at p.seat.table_id p.number p.seat.me p.lawful };
+    ghost view = { λ p. pass_at record { table = p.badge.table_id; parties = p.parties } p.number p.badge.views p.lawful };
 
-    ghost invariant = { λ p. IsAtRest (pass_at p.seat.table_id p.number p.seat.me p.lawful) p.seat.me };
+    ghost invariant = { λ p. RestsAs (pass_at record { table = p.badge.table_id; parties = p.parties } p.number p.badge.views p.lawful) p.badge.views };
 }
 
-impl<V: Kept> TurnPass<V> {
-    /// The number of the party: pass i of [`Turns::make`] has the number i.
+impl<L, Q, A> PartyPass<L, Q, A> {
+    /// The number of the party, which is below the number of the lock's passes: pass i of [`Turns::make`] has the number i.
     pub fn number(&self) -> u32
-        ensures { result ≡ self.now.number }
+        ensures is { result ≡ self.now.number }
+        ensures inside { result < self.now.lock.parties }
     {
         self.number
     }
@@ -98,8 +120,9 @@ impl<V: Kept> Turns<V> {
     ) -> Result<(Turns<V>, Vec<TurnPass<V>>), (NoMemory, V)>
         requires count { (1 ≤ n) × (n ≤ 256) }
         requires opens { V.stands value [] × V.run (V.law value) [] }
-        ensures lock { IfOk result (λ r. (r.0.parties ≡ n) × (r.0.law ≡ V.law value)) }
+        ensures lock { IfOk result (λ r. (r.0.id.parties ≡ n) × (r.0.law ≡ V.law value)) }
         ensures count { IfOk result (λ r. vec_len r.1 ≡ n) }
+        ensures theirs { IfOk result (λ r. All (λ p. p.lock ≡ r.0.id) r.1.items × All (λ p. p.law ≡ r.0.law) r.1.items) }
         ensures passes { IfOk result (λ r. EachIndex r.1.items (λ i. slice_get r.1.items i ≡ Some (unused r.0 i))) }
         ensures refused { IfErr result (λ e. e.1 ≡ value) }
     {
@@ -114,7 +137,7 @@ impl<V: Kept> Turns<V> {
             parties: n,
         };
         slots.push_reserved(Some(value));
-        match Table::new(alloc, &[0, 0, 0, 0], slots, &opening) {
+        match Table::new(alloc, &[0, 0, 0], slots, &opening) {
             Ok((table, mut seat)) => {
                 let turns = Turns { table, parties: n };
                 turns.deal(&mut seat, &mut passes);
@@ -156,12 +179,14 @@ impl<V: Kept> Turns<V> {
         ensures place { (before : List (Entry V.Request V.Answer))
             → pass.new.seen ≡ before ++ entry request.now result.used result.answer ∷ [] → result.place ≡ length before % 2 ^ 64 }
     {
-        let seat = &mut pass.seat;
-        self.wait_turn(rt, seat);
-        let mut value = self.take(seat);
-        let stepped = value.step(rt, request, moment);
-        let place = self.count::<Brand>(seat, request, &stepped);
-        self.give(seat, value);
+        let badge = mem::replace(&mut pass.badge, Badge::blank());
+        let mut seat = badge.into_seat();
+        self.wait_turn(rt, &mut seat);
+        self.take(&mut seat);
+        let stepped = self.step(rt, &mut seat, request, moment);
+        let place = self.count::<Brand>(&mut seat, request, &stepped);
+        self.give(&mut seat);
+        pass.badge = seat.into_badge();
         let Stepped { answer, used } = stepped;
         Answered {
             answer,
@@ -172,9 +197,9 @@ impl<V: Kept> Turns<V> {
 
     /// Takes all passes of the lock in, and gives the value back, with the number of all calls modulo 2^64.
     ///
-    /// It takes no memory and waits for nobody. The value stands for the whole history, of which each pass has seen a beginning and has its party's part, and which has no entries but theirs.
+    /// It takes no memory and waits for nobody. The value stands for the whole history, which is one for all passes: each has seen a beginning of it and has its party's part. The passes' numbers are 0 to `parties` - 1 in some order, and the history has no entries but theirs: whatever an entry counts for, the passes' own entries together count for what the history does.
     pub fn close(self, passes: Vec<TurnPass<V>>) -> (V, u64)
-        requires count { vec_len passes ≡ self.parties }
+        requires count { vec_len passes ≡ self.id.parties }
         requires lock { All (λ p. p.lock ≡ self.id) passes.items }
         ensures law { V.law result.0 ≡ self.law }
         ensures history { Closes V.party V.run V.stands self.law passes.items result.0 result.1 }
@@ -182,7 +207,7 @@ impl<V: Kept> Turns<V> {
         let seat = self.gather(passes);
         let Turns { table, parties: _ } = self;
         let mut closed = table.close_with(seat);
-        let calls = closed.word(CALLS);
+        let calls = closed.word(SERVING);
         let slot = closed.take(VALUE);
         closed.free();
         let Some(value) = slot else { unreachable!() };
@@ -191,84 +216,127 @@ impl<V: Kept> Turns<V> {
 
     // Deals the passes, whose room is there.
     fn deal(&self, seat: &mut LockSeat<V>, passes: &mut Vec<TurnPass<V>>)
-        requires lock { seat.old.table_id ≡ self.now.id }
+        requires lock { seat.old.table_id ≡ self.now.id.table }
         requires opens { seat.old.me ≡ (maker self.now.law 0, []) }
-        requires room { (passes.old.items ≡ []) × (self.now.parties ≤ vec_capacity passes.old) }
-        ensures count { vec_len passes.new ≡ self.now.parties }
+        requires room { (passes.old.items ≡ []) × (self.now.id.parties ≤ vec_capacity passes.old) }
+        ensures count { vec_len passes.new ≡ self.now.id.parties }
         ensures dealt { EachIndex passes.new.items (λ i. slice_get passes.new.items i ≡ Some (unused self.now i)) }
     {
         for number in 0..self.parties {
             let other = self.table.shared.split_seat::<Deal>(seat);
-            passes.push_reserved(TurnPass {
+            passes.push_reserved(PartyPass {
                 number,
-                seat: other,
+                parties: self.parties,
+                badge: other.into_badge(),
             });
         }
     }
 
     // Draws a ticket, and waits until it is served.
     fn wait_turn<R: Wait>(&self, rt: &R, seat: &mut LockSeat<V>)
-        requires lock { seat.old.table_id ≡ self.now.id }
+        requires lock { seat.old.table_id ≡ self.now.id.table }
         requires idle { (p : Pass V.Law V.Request V.Answer) × IsAtRest p seat.old.me }
         ensures lock { seat.new.table_id ≡ seat.old.table_id }
         ensures turn { (p : Pass V.Law V.Request V.Answer) → IsAtRest p seat.old.me
             → (t : ℕ) × (seat.new.me ≡ (seated p (Turn t), [])) }
     {
+        self.look_before(rt);
         let ticket = self.table.shared.fetch_add::<Draw>(seat, TICKET, 1);
+        let mut round = 0u32;
         for _ in rt.forever() {
             let serving = self.table.shared.load::<Watch>(seat, SERVING);
             if serving == ticket {
                 return;
             }
-            thread::yield_now();
+            self.pause(rt, round, serving);
+            round = round.saturating_add(1);
         }
         unreachable!()
     }
 
+    // Waits until nobody has a ticket that isn't served, or for so many rounds. Tickets are served in order, so one drawer
+    // whom the system has put aside stops all behind it: who looks first mostly draws where its turn has come at once.
+    fn look_before<R: Wait>(&self, rt: &R) {
+        for round in 0..PATIENCE {
+            let serving = self.table.shared.peek(SERVING);
+            if self.table.shared.peek(TICKET) == serving {
+                return;
+            }
+            self.pause(rt, round, serving);
+        }
+    }
+
+    // One round of waiting for the serving word to be another than was seen. Nobody wakes a sleeper.
+    fn pause<R: Wait>(&self, rt: &R, round: u32, seen: u64) {
+        if round < SPINS {
+            hint::spin_loop();
+        } else if round < SPINS + YIELDS {
+            thread::yield_now();
+        } else {
+            let seen = (seen & 0xffff_ffff) as u32;
+            let nap = nap(round - SPINS - YIELDS);
+            self.table.shared.park_timeout(rt, SERVING, seen, nap);
+        }
+    }
+
     // Takes the value out, in the seat's turn.
-    fn take(&self, seat: &mut LockSeat<V>) -> V
-        requires lock { seat.old.table_id ≡ self.now.id }
+    fn take(&self, seat: &mut LockSeat<V>)
+        requires lock { seat.old.table_id ≡ self.now.id.table }
         requires turn { (p : Pass V.Law V.Request V.Answer) × (t : ℕ) × (seat.old.me ≡ (seated p (Turn t), [])) }
         ensures lock { seat.new.table_id ≡ seat.old.table_id }
         ensures took { (p : Pass V.Law V.Request V.Answer) (t : ℕ) → seat.old.me ≡ (seated p (Turn t), [])
-            → (h : List (Entry V.Request V.Answer)) × (seat.new.me ≡ (seated (shown p h) (Out t), (0, None) ∷ [])) × StandsFor V.law V.party V.run V.stands result h p }
+            → (x : V) × (h : List (Entry V.Request V.Answer)) × (seat.new.me ≡ (seated (shown p h) (Out t), (0, Some x) ∷ [])) × StandsFor V.law V.party V.run V.stands x h p }
     {
         self.table.shared.load::<Take<V>>(seat, SERVING);
-        let Some(value) = self.table.shared.exchange(seat, VALUE, None) else {
-            unreachable!()
-        };
-        value
     }
 
-    // Counts the entry of a step, and gives the number of those before it.
+    // Makes one step of the value that is out with the seat, where it lies.
+    fn step<R: Wait>(
+        &self,
+        rt: &R,
+        seat: &mut LockSeat<V>,
+        request: &V::Request,
+        moment: u64,
+    ) -> Stepped<V::Answer>
+        requires lock { seat.old.table_id ≡ self.now.id.table }
+        requires out { (x : V) × (seat.old.me.1 ≡ (0, Some x) ∷ []) × V.fits (V.law x) request.now }
+        ensures lock { seat.new.table_id ≡ seat.old.table_id }
+        ensures view { seat.new.me.0 ≡ seat.old.me.0 }
+        ensures stepped { (x : V) → seat.old.me.1 ≡ (0, Some x) ∷ []
+            → (y : V) × (seat.new.me.1 ≡ (0, Some y) ∷ []) × StepsBy V.law V.run V.used V.stands x y moment (entry request.now result.used result.answer) }
+    {
+        let slot = seat.slot_mut(&self.table.shared, VALUE);
+        let Some(value) = slot else { unreachable!() };
+        value.step(rt, request, moment)
+    }
+
+    // Adds the entry of a step to the history, and gives the number of those before it: one for each ticket that was served.
     fn count<J: Saying<V::Request, V::Answer>>(
         &self,
         seat: &mut LockSeat<V>,
         request: &V::Request,
         stepped: &Stepped<V::Answer>,
     ) -> u64
-        requires lock { seat.old.table_id ≡ self.now.id }
+        requires lock { seat.old.table_id ≡ self.now.id.table }
         requires said { J.said ≡ entry request.now stepped.now.used stepped.now.answer ∷ [] }
-        requires out { (p : Pass V.Law V.Request V.Answer) × (t : ℕ) × (seat.old.me ≡ (seated p (Out t), (0, None) ∷ []))
+        requires out { (p : Pass V.Law V.Request V.Answer) × (t : ℕ) × (x : V) × (seat.old.me ≡ (seated p (Out t), (0, Some x) ∷ []))
             × V.run p.law (p.seen ++ J.said) × (V.party request.now ≡ p.number) }
         ensures lock { seat.new.table_id ≡ seat.old.table_id }
-        ensures counted { (p : Pass V.Law V.Request V.Answer) (t : ℕ) → seat.old.me ≡ (seated p (Out t), (0, None) ∷ [])
-            → (seat.new.me ≡ (seated (longer p J.said) (Counted t), (0, None) ∷ [])) × (result ≡ length p.seen % 2 ^ 64) }
+        ensures counted { (p : Pass V.Law V.Request V.Answer) (t : ℕ) (x : V) → seat.old.me ≡ (seated p (Out t), (0, Some x) ∷ [])
+            → (seat.new.me ≡ (seated (longer p J.said) (Counted t), (0, Some x) ∷ [])) × (result ≡ length p.seen % 2 ^ 64) }
     {
-        self.table.shared.fetch_add::<Count<J>>(seat, CALLS, 1)
+        self.table.shared.load::<Count<J>>(seat, SERVING)
     }
 
     // Puts the value back, and serves the next ticket.
-    fn give(&self, seat: &mut LockSeat<V>, value: V)
-        requires lock { seat.old.table_id ≡ self.now.id }
-        requires counted { (p : Pass V.Law V.Request V.Answer) × (t : ℕ) × (seat.old.me ≡ (seated p (Counted t), (0, None) ∷ []))
-            × V.stands value p.seen × (V.law value ≡ p.law) }
+    fn give(&self, seat: &mut LockSeat<V>)
+        requires lock { seat.old.table_id ≡ self.now.id.table }
+        requires counted { (p : Pass V.Law V.Request V.Answer) × (t : ℕ) × (x : V) × (seat.old.me ≡ (seated p (Counted t), (0, Some x) ∷ []))
+            × V.stands x p.seen × (V.law x ≡ p.law) }
         ensures lock { seat.new.table_id ≡ seat.old.table_id }
-        ensures idle { (p : Pass V.Law V.Request V.Answer) (t : ℕ) → seat.old.me ≡ (seated p (Counted t), (0, None) ∷ [])
+        ensures idle { (p : Pass V.Law V.Request V.Answer) (t : ℕ) (x : V) → seat.old.me ≡ (seated p (Counted t), (0, Some x) ∷ [])
             → IsAtRest p seat.new.me }
     {
-        let before = self.table.shared.exchange(seat, VALUE, Some(value));
-        let None = before else { unreachable!() };
         self.table.shared.load::<Give>(seat, SERVING);
         self.table.shared.fetch_add::<Next>(seat, SERVING, 1);
     }
@@ -277,7 +345,7 @@ impl<V: Kept> Turns<V> {
     fn gather(&self, mut passes: Vec<TurnPass<V>>) -> LockSeat<V>
         requires some { 0 < vec_len passes }
         requires lock { All (λ p. p.lock ≡ self.now.id) passes.items }
-        ensures lock { result.table_id ≡ self.now.id }
+        ensures lock { result.table_id ≡ self.now.id.table }
         ensures all { IsGathered passes.items result.me }
     {
         let Some(first) = passes.pop() else {
@@ -293,14 +361,25 @@ impl<V: Kept> Turns<V> {
     }
 }
 
-impl<V: Kept> TurnPass<V> {
-    fn into_seat(self) -> LockSeat<V>
-        ensures lock { result.table_id ≡ self.lock }
+impl<L, Q, A> PartyPass<L, Q, A> {
+    // A seat again, at a table whose slots hold an S.
+    fn into_seat<S>(self) -> Seat<S, View<L, Q, A>>
+        ensures lock { result.table_id ≡ self.lock.table }
         ensures idle { IsAtRest self result.me }
     {
-        let TurnPass { number: _, seat } = self;
-        seat
+        let PartyPass {
+            number: _,
+            parties: _,
+            badge,
+        } = self;
+        badge.into_seat()
     }
+}
+
+// How long the sleep after so many others is.
+fn nap(naps: u32) -> Duration {
+    let micros = FIRST_NAP << naps.min(DOUBLINGS);
+    Duration::from_micros(micros.min(LONGEST_NAP))
 }
 
 // What the one slot holds.

@@ -22,7 +22,7 @@ pub(crate) enum Stage {
     Turn(u64),
     /// The value is out with it.
     Out(u64),
-    /// Its entry was counted, and the value is still out.
+    /// Its entry is in the history, and the value is still out.
     Counted(u64),
     /// The value is at home again.
     Home(u64),
