@@ -1,0 +1,33 @@
+"""Prints the nanoseconds of processor time that a publishing and a glance take, by the number of readers."""
+import os
+import sys
+
+PROGRAM = sys.argv[1] if len(sys.argv) > 1 else "crates/board_bench/out/board_bench"
+FEW, TIMES = 1_000, 5
+MANY = {"publish": 501_000, "glance": 5_001_000}
+
+
+def seconds(call, readers, rounds):
+    """The processor time of one run, which what else the machine does disturbs little."""
+    child = os.posix_spawn(
+        PROGRAM,
+        [PROGRAM, call, str(readers), str(rounds)],
+        os.environ,
+        file_actions=[(os.POSIX_SPAWN_OPEN, 1, os.devnull, os.O_WRONLY, 0)],
+    )
+    _, status, usage = os.wait4(child, 0)
+    if status != 0:
+        sys.exit(f"{PROGRAM} ended with {os.waitstatus_to_exitcode(status)}")
+    return usage.ru_utime + usage.ru_stime
+
+
+def nanoseconds_a_call(call, readers):
+    few = min(seconds(call, readers, FEW) for _ in range(TIMES))
+    many = min(seconds(call, readers, MANY[call]) for _ in range(TIMES))
+    return (many - few) / (MANY[call] - FEW) * 1e9
+
+
+print("readers   publish   glance   (nanoseconds a call)")
+for readers in (1, 16, 256):
+    told = [nanoseconds_a_call(call, readers) for call in ("publish", "glance")]
+    print(f"{readers:7}   {told[0]:7.0f}   {told[1]:6.0f}")

@@ -1,0 +1,6 @@
+pub mod Adding
+pub mod Fronts
+pub mod Idle
+pub mod Published
+pub mod Shows
+pub mod Told

@@ -1,0 +1,5 @@
+pub mod Counted
+pub mod Fronts
+pub mod Rule
+pub mod Shows
+pub mod OneSeat
