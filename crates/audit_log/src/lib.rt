@@ -1,9 +1,17 @@
-//! The faults of scripts and logs: which line is at fault, and why, in the words that are printed.
+//! The log of a desk: the queue that its entries go through, and the lines of a log, written and read.
 #![tactic(auto)]
 
-mod fault;
+mod ends;
+mod laws;
+mod queue;
+mod reading;
+mod reply_reading;
+mod writing;
 
-pub use fault::{ScriptFault, ScriptWord};
+pub use laws::{logs_read_back, replies_read_back};
+pub use queue::{LogPush, LogTake, QueueId, log_queue};
+pub use reading::{Logged, is_summary, read_entry};
+pub use writing::{write_entry, write_log, write_tally};
 
 #[cfg(test)]
 mod tests;

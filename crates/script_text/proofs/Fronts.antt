@@ -1,25 +1,18 @@
-use Rattle.std.proofs.Common.{◌≡◌, List, [], ◌∷◌, ◌++◌, map, true, Result, Ok, Err, refl, sym, ap, ◌∙◌, append_assoc}
+use Rattle.std.proofs.Common.{◌≡◌, List, [], ◌∷◌, ◌++◌, map, true, Result, Ok, Err, refl, sym, ap, ◌∙◌}
 use Rattle.std.specs.List.{list_all}
 use Rattle.lic_text.specs.Lines.{Worded}
 use Rattle.lic_text.specs.declared.fault.TextFault.{TextFault}
 use Rattle.options_machine.proofs.Counts.{and_left, and_right}
-use Rattle.audit_log.specs.declared.fault.ScriptFault.{ScriptFault}
+use Rattle.script_words.specs.declared.fault.ScriptFault.{ScriptFault}
 use Rattle.script_text.specs.Fits.{is_fit}
-use Rattle.script_text.specs.Script.{all_or_first_fault, line_of, onto}
+use Rattle.script_words.proofs.Fronts.{front_more, with_front}
+use Rattle.script_words.specs.Firsts.{all_or_first_fault, onto}
+use Rattle.script_text.specs.Script.{line_of}
 use Rattle.script_text.specs.declared.line.ScriptLine.{ScriptLine}
-
--- these, and then those, if there are those
-abbrev pub with_front : {X E : Type 0} → List X → Result (List X) E → Result (List X) E
-with_front front (Err fault) = Err fault
-with_front front (Ok xs) = Ok (front ++ xs)
 
 -- the lines so far, and those that are left
 abbrev pub as_far_as : List ScriptLine → List (Result Worded TextFault) → Result (List ScriptLine) ScriptFault
 as_far_as front left = with_front front (all_or_first_fault (map line_of left))
-
-front_more : {X E : Type 0} (front : List X) (x : X) (others : Result (List X) E) → with_front (front ++ x ∷ []) others ≡ with_front front (onto (Ok x) others)
-front_more front x (Err fault) = refl
-front_more front x (Ok xs) = ap Ok (append_assoc front (x ∷ []) xs)
 
 -- one line more was read
 pub one_more : (front : List ScriptLine) (x : ScriptLine) (line : Result Worded TextFault) (lines all : List (Result Worded TextFault)) (whole : Result (List ScriptLine) ScriptFault)

@@ -1,48 +1,23 @@
-use Rattle.std.specs.Prelude.{ℕ, ◌^◌, nat_lt, nat_eq, if◌then◌else◌, List, [], ◌∷◌, Option, None, Some, Result, Ok, Err, codes}
+use Rattle.std.specs.Prelude.{ℕ, ◌^◌, nat_eq, if◌then◌else◌, List, [], ◌∷◌, Option, None, Some, Result, Ok, Err, codes}
 use Rattle.std.specs.Cmp.Lexicographic.{pointwise}
 use Rattle.lic_types.specs.Name.{name_of}
 use Rattle.lic_types.specs.Version.{key_of}
-use Rattle.lic_types.specs.declared.client.Client.{Client}
-use Rattle.lic_types.specs.declared.name.NameFault.{NameFault}
 use Rattle.lic_types.specs.declared.version.Version.{Version}
 use Rattle.lic_text.specs.Number.{number_of}
 use Rattle.options_machine.specs.declared.reply.Kind.{Kind}
 use Rattle.options_machine.specs.declared.reply.Kind.TheVariants.{Checkout, Checkin, Beat, Look, Quit, Count, Queue, Reread}
-use Rattle.audit_log.specs.declared.fault.ScriptWord.{ScriptWord}
-use Rattle.audit_log.specs.declared.fault.ScriptWord.TheVariants.{UnknownWord, WordCount, BadNumber, BadName, BadVersion}
+use Rattle.script_words.specs.Fields.{and_then, below, client_of, named}
+use Rattle.script_words.specs.declared.fault.ScriptWord.{ScriptWord}
+use Rattle.script_words.specs.declared.fault.ScriptWord.TheVariants.{UnknownWord, WordCount, BadVersion}
 use Rattle.script_text.specs.declared.line.ScriptLine.{ScriptLine}
 use Rattle.script_text.specs.declared.words.Asked.{Asked}
 use Rattle.script_text.specs.declared.words.Verb.{Verb}
 use Rattle.script_text.specs.declared.words.Verb.TheVariants.{Seat, Other, Reread as Anew}
 
--- what is made of a result's value; the first fault of a chain decides
-abbrev pub and_then : {X Y : Type 0} → Result X ScriptWord → (X → Result Y ScriptWord) → Result Y ScriptWord
-and_then (Ok x) next = next x
-and_then (Err fault) next = Err fault
-
--- a number below the limit
-abbrev pub below : ℕ → Option ℕ → Result ℕ ScriptWord
-below limit None = Err BadNumber
-below limit (Some n) = if nat_lt n limit then Ok n else Err BadNumber
-
--- a name
-abbrev pub named : Result (List ℕ) NameFault → Result (List ℕ) ScriptWord
-named (Ok name) = Ok name
-named (Err fault) = Err BadName
-
 -- the version of a key
 abbrev pub version_of : Option ℕ → Result Version ScriptWord
 version_of None = Err BadVersion
 version_of (Some key) = Ok (record { key = key })
-
--- the client of the words for the user, the host, the display and the project
-abbrev pub client_of : List ℕ → List ℕ → List ℕ → List ℕ → Result Client ScriptWord
-client_of user host display project =
-    and_then (named (name_of user)) (λ u.
-    and_then (named (name_of host)) (λ h.
-    and_then (named (name_of display)) (λ d.
-    and_then (named (name_of project)) (λ p.
-    Ok (record { user = u; host = h; display = d; project = p })))))
 
 -- what a verb asks for
 abbrev pub verb_of : List ℕ → Result Verb ScriptWord

@@ -7,8 +7,8 @@ ghost use Rattle.script_text.specs.Script.{IsRefused, line_of, script_of};
 use crate::line::ScriptLine;
 use crate::refusal::ScriptRefusal;
 use crate::words::read_words;
-use audit_log::ScriptFault;
 use lic_text::{Line, TextFault, lines};
+use script_words::ScriptFault;
 use std::alloc::Global;
 
 /// The script line of a logical line.

@@ -1,8 +1,8 @@
 use crate::{ScriptLine, ScriptRefusal, read_script};
-use audit_log::{ScriptFault, ScriptWord};
 use lic_text::TextFault;
 use lic_types::{Client, Name, Version};
 use options_machine::Kind;
+use script_words::{ScriptFault, ScriptWord};
 use std::alloc::Global;
 use std::test::Fail;
 

@@ -1,16 +1,14 @@
 ghost use Rattle.std.specs.Prelude.{◌≡◌, ◌<◌, ◌^◌, [], ◌∷◌, IfOk, MatchResult, true};
 ghost use Rattle.lic_text.specs.Left.{words_left};
-ghost use Rattle.lic_text.specs.Number.{number_of};
-ghost use Rattle.lic_types.specs.Name.{name_of};
 ghost use Rattle.lic_types.specs.Version.{key_of};
 ghost use Rattle.script_text.specs.Fits.{has_its_words, is_fit, is_kind_of_verb, is_of_other, is_of_seat};
-ghost use Rattle.script_text.specs.Words.{asked_of, below, client_of, line_of_words, named, other_asked, reread_asked, seat_asked, verb_of, version_of};
+ghost use Rattle.script_text.specs.Words.{asked_of, line_of_words, other_asked, reread_asked, seat_asked, verb_of, version_of};
 
 use crate::line::ScriptLine;
-use audit_log::ScriptWord;
-use lic_text::{Words, number};
-use lic_types::{Client, Name, Version};
+use lic_text::Words;
+use lic_types::{Name, Version};
 use options_machine::Kind;
+use script_words::{ScriptWord, next_word, read_below, read_client, read_name};
 
 /// Moments are below this, in seconds since 1970-01-01 UTC.
 const MOMENT_LIMIT: u64 = 1 << 40;
@@ -21,57 +19,11 @@ const PARTY_LIMIT: u64 = 256;
 /// The numbers of rule sets are below this.
 const SET_LIMIT: u64 = 1 << 32;
 
-/// The next word of a line, which is to have one.
-fn next_word<'a>(words: &mut Words<'a>) -> Result<&'a [u8], ScriptWord>
-    ensures { MatchResult result (λ word. words_left words.old ≡ word.now ∷ words_left words.new) (λ fault. (words_left words.old ≡ []) × (fault ≡ ScriptWord.WordCount)) }
-{
-    words.next().ok_or(ScriptWord::WordCount)
-}
-
-/// The number that a word spells, where it is below the limit.
-fn read_below(word: &[u8], limit: u64) -> Result<u64, ScriptWord>
-    ensures value { result ≡ below limit (number_of word.now) }
-    ensures small { IfOk result (λ n. n < limit) }
-{
-    match number(word) {
-        Some(value) if value < limit => Ok(value),
-        _ => Err(ScriptWord::BadNumber),
-    }
-}
-
-/// The name that a word spells.
-fn read_name(word: &[u8]) -> Result<Name, ScriptWord>
-    ensures { result ≡ named (name_of word.now) }
-{
-    Name::read(word).map_err(|_| ScriptWord::BadName)
-}
-
 /// The version that a word spells.
 fn read_version(word: &[u8]) -> Result<Version, ScriptWord>
     ensures { result ≡ version_of (key_of word.now) }
 {
     Version::read(word).ok_or(ScriptWord::BadVersion)
-}
-
-/// The client of these four names.
-fn read_client(
-    user: &[u8],
-    host: &[u8],
-    display: &[u8],
-    project: &[u8],
-) -> Result<Client, ScriptWord>
-    ensures { result ≡ client_of user.now host.now display.now project.now }
-{
-    let user = read_name(user)?;
-    let host = read_name(host)?;
-    let display = read_name(display)?;
-    let project = read_name(project)?;
-    Ok(Client {
-        user,
-        host,
-        display,
-        project,
-    })
 }
 
 /// What a verb asks for, and so which words are to stand behind it.

@@ -1,0 +1,4 @@
+mod Entries
+mod LogLines
+mod Moves
+mod Replies

@@ -1,0 +1,6 @@
+pub mod Grants
+pub mod Judged
+pub mod Lines
+pub mod Openings
+pub mod Pools
+pub mod Sets

@@ -1,0 +1,48 @@
+use Rattle.std.specs.Prelude.{◌≡◌, ℕ, ◌+◌, ◌≤◌, Bool, true, nat_lt, if◌then◌else◌, length, Option, None, Some}
+use Rattle.options_machine.specs.Run.{AsksForSet}
+use Rattle.options_machine.specs.State.{State}
+use Rattle.options_machine.specs.Step.{set_asked, step}
+use Rattle.options_machine.specs.declared.reply.Kind.TheVariants.{Look}
+use Rattle.options_machine.specs.declared.reply.Reply.{Reply}
+use Rattle.options_machine.specs.declared.reply.Request.{Request}
+use Rattle.audit_log.specs.declared.reading.Logged.{Logged}
+use Rattle.log_audit.specs.declared.desk.Desk.{Desk}
+use Rattle.log_audit.specs.declared.desk.Expected.{Expected}
+
+-- whether there is the rule set that is asked for, of so many
+abbrev pub is_there : Option ℕ → ℕ → Bool
+is_there None sets = true
+is_there (Some set) sets = nat_lt set sets
+
+-- what is asked in the place of a request: a look, where there is no rule set of the number that it asks for
+abbrev pub asked : ℕ → Request → Request
+asked sets request = if is_there (set_asked request.kind) sets then request else record request { kind = Look }
+
+-- what a desk answers to a request, and the state then
+abbrev pub answer : Desk → Request → ℕ → Reply × State
+answer d request moment = step d.book.sets d.book.state request moment
+
+-- this holds in the place of a request
+pub record Says (d : Desk) (request : Request) (moment : ℕ) (e : Expected) : Type 0 where
+  pub place : e.place ≡ d.entries
+  pub used : e.moment ≡ (answer d request moment).1.now
+  pub reply : e.reply ≡ (answer d request moment).0
+
+-- an entry is the one that the desk makes next
+pub record IsNext (d : Desk) (x : Logged) : Type 0 where
+  pub place : x.place ≡ d.entries
+  pub later : d.book.state.now ≤ x.entry.moment
+  pub fits : AsksForSet d.book.sets x.entry.request
+  pub reply : x.entry.reply ≡ (answer d x.entry.request x.entry.moment).0
+
+-- what holds in the place of an entry
+abbrev pub IsExpected : Desk → Logged → Expected → Type 0
+IsExpected d x e = Says d (asked (length d.book.sets) x.entry.request) x.entry.moment e
+
+-- the desk after its book answered a request
+abbrev pub moved_by : Desk → Request → ℕ → Desk
+moved_by d request moment = record d { book = record d.book { state = (answer d request moment).1 } }
+
+-- the desk after an entry
+abbrev pub moved_on : Desk → Logged → Desk
+moved_on d x = record d { book = record d.book { state = (answer d x.entry.request x.entry.moment).1 }; entries = d.entries + 1 }
