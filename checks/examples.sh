@@ -1,33 +1,32 @@
 #!/bin/sh
-# Replays and checks each example as a user would, and compares what the program writes with the texts that stand beside
-# it: `replies`, and `check` where there is one.
+# Replays and checks each example with the built program, and audits its log where it has one, and compares what it writes with
+# the texts that stand beside it, `expected.replay`, `expected.check` and `expected.audit`; and looks that the README shows the
+# first example as it is.
 top=$(cd "$(dirname "$0")/.." && pwd)
-cd "$top/crates/licence_main" || exit 1
+program=${1:-$top/crates/licence_main/out/licence_main}
 wrong=0
 
-compare() {
-    if ! diff - "$1"; then
-        echo "$1: not what was written"
-        return 1
-    fi
+[ -x "$program" ] || { echo "examples: $program isn't built: rt ci builds it"; exit 1; }
+
+# Whether the program writes the text of the file when it is given these words.
+writes() {
+    expected=$1
+    shift
+    "$program" "$@" | diff "$expected" - || { echo "$expected: not what is written"; wrong=1; }
 }
 
-replay() {
-    if [ -e "$1/more" ]; then
-        rt try --data licence="$1/licence" --data options="$1/options" --data script="$1/script" \
-            --data more="$1/more" -- replay licence options script more 2>/dev/null
-    else
-        rt try --data licence="$1/licence" --data options="$1/options" --data script="$1/script" \
-            -- replay licence options script 2>/dev/null
-    fi
-}
-
-check() {
-    rt try --data licence="$1/licence" --data options="$1/options" -- check licence options 2>/dev/null
-}
-
-for example in "$top"/examples/*; do
-    replay "$example" | compare "$example/replies" || wrong=1
-    [ ! -e "$example/check" ] || check "$example" | compare "$example/check" || wrong=1
+for example in "$top"/examples/*/; do
+    cd "$example" || exit 1
+    set -- licence options script
+    [ ! -e more ] || set -- "$@" more
+    writes expected.replay replay "$@"
+    writes expected.check check licence options
+    shift 3
+    [ ! -e log ] || writes expected.audit audit licence options log "$@"
 done
+
+cd "$top/examples/first" || exit 1
+cat licence options script expected.replay | while IFS= read -r line; do
+    grep -qxF "    $line" "$top/README.md" || { echo "README.md lacks the line: $line"; exit 1; }
+done || wrong=1
 exit "$wrong"

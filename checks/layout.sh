@@ -1,6 +1,6 @@
 #!/bin/sh
-# The layout that the repository keeps: the one line of HANDLES, each crate in crates.txt and in the documents, and no
-# source file of 800 lines or more.
+# The layout that the repository keeps: the one line of HANDLES, each crate in crates.txt and in the documents, no source
+# file of 800 lines or more, and looks at a table without a seat in the ticket lock alone.
 cd "$(dirname "$0")/.." || exit 1
 wrong=0
 
@@ -24,5 +24,12 @@ for source in crates/*/src/*.rt crates/*/src/*/*.rt; do
     lines=$(wc -l < "$source")
     [ "$lines" -lt 800 ] || say "$source has $lines lines"
 done
+
+# A look without a seat tells nothing, so no contract can refuse one: the lock has it before it draws, and nobody else.
+stray=$(find crates/*/src -name '*.rt' -exec awk '
+    / fn / || /^fn / { named = $0; sub(/.*fn /, "", named) }
+    /peek\([^)]/ && !(FILENAME == "crates/turn_lock/src/turns.rt" && named ~ /^look_before[<(]/) { print FILENAME " line " FNR }
+' {} +)
+[ -z "$stray" ] || say "a look without a seat: $stray"
 
 exit "$wrong"

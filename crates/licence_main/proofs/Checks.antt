@@ -1,15 +1,15 @@
-use Rattle.std.proofs.Common.{◌≡◌, ℕ, List, [], ◌∷◌, None, Some, IfSome, Result, Ok, refl, sym, subst}
+use Rattle.std.proofs.Common.{◌≡◌, ℕ, List, [], ◌∷◌, None, Some, IfSome, Result, Ok, refl, sym, subst, inl}
 use Rattle.check_text.specs.Check.{check_of}
 use Rattle.feature_lines.specs.Licence.{Contents}
 use Rattle.options_text.specs.Answers.{◌>>=◌}
 use Rattle.options_text.specs.Options.{OptionsFile}
 use Rattle.licence_main.specs.Command.{CheckFiles, Check}
 use Rattle.licence_main.specs.Files.{AreReadings, Bytes, IsReading}
-use Rattle.licence_main.specs.Outcome.{licence_heard, options_heard}
-use Rattle.licence_main.specs.Tool.{EndSays, IsDone, RefusalSays, WritingSays}
+use Rattle.licence_main.specs.Outcome.{Due, Text, licence_heard, options_heard}
+use Rattle.licence_main.specs.Tool.{DueSays, EndSays, IsDone, RefusalSays, WritingSays}
 use Rattle.licence_main.proofs.Hearing.{agreeing, is_agreeing, refusal_onward}
 use Rattle.licence_main.specs.declared.status.Status.{Status}
-use Rattle.licence_main.specs.declared.status.Status.TheVariants.{Done, Usage, Licence, Options, MoreOptions, Script, ReadFault, WriteFault, NoMemory, FileTooLong}
+use Rattle.licence_main.specs.declared.status.Status.TheVariants.{Done, Usage, Licence, Options, MoreOptions, Script, ReadFault, WriteFault, NoMemory, FileTooLong, AuditNo}
 
 -- what is read of a file may be read of it as well where it is told the same and readings may fail as well
 pub wider : (Failed Wide : Type 0) (told same reading : Bytes) → told ≡ same → (Failed → Wide) → IsReading Failed told reading → IsReading Wide same reading
@@ -36,7 +36,7 @@ are_agreeing Failed [] = tt
 are_agreeing Failed (told ∷ others) = (is_agreeing Failed told, are_agreeing Failed others)
 
 -- where a file is refused, nothing is written
-pub stops : (Failed OutFailed : Type 0) (held : Bytes) (outcome : Result (List ℕ) Status) (status : Status) → RefusalSays Failed outcome status → EndSays Failed OutFailed held held outcome status
+pub stops : (Failed OutFailed : Type 0) (held : Bytes) (outcome : Result Due Status) (status : Status) → RefusalSays Failed outcome status → EndSays Failed OutFailed held held outcome status
 stops Failed OutFailed held outcome (ReadFault file) says = (refl, says)
 stops Failed OutFailed held outcome (FileTooLong file) says = (refl, says)
 stops Failed OutFailed held outcome (Script fault) says = (refl, says)
@@ -47,19 +47,35 @@ stops Failed OutFailed held outcome NoMemory says = (refl, says)
 stops Failed OutFailed held outcome Done says = absurd says
 stops Failed OutFailed held outcome Usage says = absurd says
 stops Failed OutFailed held outcome WriteFault says = absurd says
+stops Failed OutFailed held outcome (AuditNo line) says = absurd says
 
--- where all files are accepted, their text is written
-pub writes : (Failed OutFailed : Type 0) (old new : Bytes) (text : List ℕ) (outcome : Result (List ℕ) Status) (status : Status) → outcome ≡ Ok text → WritingSays OutFailed old new text status → EndSays Failed OutFailed old new outcome status
-writes Failed OutFailed old new text outcome Done is says = (text, is, says)
-writes Failed OutFailed old new text outcome WriteFault is says = (says.0, (text, is, says.1))
-writes Failed OutFailed old new text outcome NoMemory is says = (says, tt)
-writes Failed OutFailed old new text outcome (ReadFault file) is says = absurd says
-writes Failed OutFailed old new text outcome (FileTooLong file) is says = absurd says
-writes Failed OutFailed old new text outcome (Script fault) is says = absurd says
-writes Failed OutFailed old new text outcome (Licence fault) is says = absurd says
-writes Failed OutFailed old new text outcome (Options fault) is says = absurd says
-writes Failed OutFailed old new text outcome (MoreOptions set fault) is says = absurd says
-writes Failed OutFailed old new text outcome Usage is says = absurd says
+-- where all files are accepted, what is due is written
+pub writes : (Failed OutFailed : Type 0) (old new : Bytes) (due : Due) (outcome : Result Due Status) (status : Status) → outcome ≡ Ok due → DueSays OutFailed old new due status → EndSays Failed OutFailed old new outcome status
+writes Failed OutFailed old new due outcome Done is says = (due, is, says)
+writes Failed OutFailed old new due outcome WriteFault is says = (due, is, says)
+writes Failed OutFailed old new due outcome (AuditNo line) is says = (due, is, says)
+writes Failed OutFailed old new due outcome NoMemory is says = (says, tt)
+writes Failed OutFailed old new due outcome (ReadFault file) is says = absurd says
+writes Failed OutFailed old new due outcome (FileTooLong file) is says = absurd says
+writes Failed OutFailed old new due outcome (Script fault) is says = absurd says
+writes Failed OutFailed old new due outcome (Licence fault) is says = absurd says
+writes Failed OutFailed old new due outcome (Options fault) is says = absurd says
+writes Failed OutFailed old new due outcome (MoreOptions set fault) is says = absurd says
+writes Failed OutFailed old new due outcome Usage is says = absurd says
+
+-- a text that is due was written
+pub due_written : (OutFailed : Type 0) (old new : Bytes) (text : List ℕ) (status : Status) → WritingSays OutFailed old new text status → DueSays OutFailed old new (Text text) status
+due_written OutFailed old new text Done says = (text, refl, says)
+due_written OutFailed old new text WriteFault says = (says.0, (text, inl refl, says.1))
+due_written OutFailed old new text NoMemory says = says
+due_written OutFailed old new text (AuditNo line) says = absurd says
+due_written OutFailed old new text (ReadFault file) says = absurd says
+due_written OutFailed old new text (FileTooLong file) says = absurd says
+due_written OutFailed old new text (Script fault) says = absurd says
+due_written OutFailed old new text (Licence fault) says = absurd says
+due_written OutFailed old new text (Options fault) says = absurd says
+due_written OutFailed old new text (MoreOptions set fault) says = absurd says
+due_written OutFailed old new text Usage says = absurd says
 
 -- the licence of a check is refused
 pub check_first : (Failed OutFailed : Type 0) (told : CheckFiles Bytes) (held : Bytes) (status : Status) (l : Bytes)
@@ -67,7 +83,8 @@ pub check_first : (Failed OutFailed : Type 0) (told : CheckFiles Bytes) (held : 
 check_first Failed OutFailed told held status l is says = record {
   readings = Check (record { licence = l; options = agreeing told.options });
   are = record { licence = is; options = is_agreeing Failed told.options };
-  says = stops Failed OutFailed held _ status (refusal_onward Failed Failed (licence_heard l) (λ licence. (options_heard 0 (agreeing told.options) >>= λ options. Ok (check_of licence options))) status (λ f. f) says);
+  says = stops Failed OutFailed held _ status (refusal_onward Failed Failed (licence_heard l) (λ licence. (options_heard 0 (agreeing told.options) >>= λ options. Ok (Text (check_of licence options)))) status (λ f. f) says);
+  histories = tt;
 }
 
 -- its options file is refused
@@ -77,8 +94,9 @@ pub check_second : (Failed OutFailed : Type 0) (told : CheckFiles Bytes) (held :
 check_second Failed OutFailed told held status l o licence is_l is_o says_l says = record {
   readings = Check (record { licence = l; options = o });
   are = record { licence = is_l; options = is_o };
-  says = subst (λ (a : Result Contents Status). EndSays Failed OutFailed held held (a >>= λ licence. (options_heard 0 o >>= λ options. Ok (check_of licence options))) status) (sym says_l)
-      (stops Failed OutFailed held _ status (refusal_onward Failed Failed (options_heard 0 o) (λ options. Ok (check_of licence options)) status (λ f. f) says));
+  says = subst (λ (a : Result Contents Status). EndSays Failed OutFailed held held (a >>= λ licence. (options_heard 0 o >>= λ options. Ok (Text (check_of licence options)))) status) (sym says_l)
+      (stops Failed OutFailed held _ status (refusal_onward Failed Failed (options_heard 0 o) (λ options. Ok (Text (check_of licence options))) status (λ f. f) says));
+  histories = tt;
 }
 
 -- both its files are accepted, and its text is written
@@ -89,5 +107,6 @@ pub check_last : (Failed OutFailed : Type 0) (told : CheckFiles Bytes) (old new 
 check_last Failed OutFailed told old new status l o licence options is_l is_o says_l says_o says = record {
   readings = Check (record { licence = l; options = o });
   are = record { licence = is_l; options = is_o };
-  says = writes Failed OutFailed old new (check_of licence options) _ status (rw (says_l, says_o) refl) says;
+  says = writes Failed OutFailed old new (Text (check_of licence options)) _ status (rw (says_l, says_o) refl) (due_written OutFailed old new (check_of licence options) status says);
+  histories = tt;
 }

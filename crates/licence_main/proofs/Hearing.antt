@@ -8,7 +8,7 @@ use Rattle.options_text.specs.declared.fault.OptionsFault.{OptionsFault}
 use Rattle.options_text.specs.declared.fault.OptionsFault.TheVariants.{NoMemory as TooLittle}
 use Rattle.licence_main.specs.Tool.{HearingSays, IsHeard, IsOptionsFault, RefusalSays}
 use Rattle.licence_main.specs.declared.status.Status.{Status}
-use Rattle.licence_main.specs.declared.status.Status.TheVariants.{Done, Usage, Licence, Options, MoreOptions, Script, ReadFault, WriteFault, NoMemory, FileTooLong}
+use Rattle.licence_main.specs.declared.status.Status.TheVariants.{Done, Usage, Licence, Options, MoreOptions, Script, ReadFault, WriteFault, NoMemory, FileTooLong, AuditNo}
 
 -- what a status says of an answer, it says of what follows from that answer
 pub refusal_onward : {X Y : Type 0} (Failed Wide : Type 0) (answer : Result X Status) (next : X → Result Y Status) (status : Status) → (Failed → Wide) → RefusalSays Failed answer status → RefusalSays Wide (answer >>= next) status
@@ -22,6 +22,7 @@ refusal_onward Failed Wide answer next (MoreOptions set fault) wide says = (ap (
 refusal_onward Failed Wide answer next Done wide says = absurd says
 refusal_onward Failed Wide answer next Usage wide says = absurd says
 refusal_onward Failed Wide answer next WriteFault wide says = absurd says
+refusal_onward Failed Wide answer next (AuditNo line) wide says = absurd says
 
 -- and where more readings may have failed
 pub refusal_wider : {X : Type 0} (Failed Wide : Type 0) (answer : Result X Status) (status : Status) → (Failed → Wide) → RefusalSays Failed answer status → RefusalSays Wide answer status
@@ -35,6 +36,7 @@ refusal_wider Failed Wide answer (MoreOptions set fault) wide says = says
 refusal_wider Failed Wide answer Done wide says = absurd says
 refusal_wider Failed Wide answer Usage wide says = absurd says
 refusal_wider Failed Wide answer WriteFault wide says = absurd says
+refusal_wider Failed Wide answer (AuditNo line) wide says = absurd says
 
 -- a file whose bytes aren't heard isn't judged
 pub unheard : {X V Y : Type 0} (view : X → Y) (bytes_of : V → List ℕ) (position : ℕ) (next : List ℕ → Result Y Status) (Failed : Type 0) (told : Bytes) (status : Status)

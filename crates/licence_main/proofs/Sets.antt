@@ -6,7 +6,7 @@ use Rattle.licence_main.specs.Files.{AreReadings, Bytes, IsReading}
 use Rattle.licence_main.specs.Outcome.{options_heard, sets_heard}
 use Rattle.licence_main.specs.Tool.{AreHeard, RefusalSays}
 use Rattle.licence_main.proofs.Hearing.{refusal_onward}
-use Rattle.licence_main.proofs.Words.{same_length}
+use Rattle.licence_main.proofs.WordLists.{same_length}
 use Rattle.licence_main.proofs.Checks.{agreeing_all, are_agreeing, wider_all}
 use Rattle.licence_main.specs.declared.status.Status.{Status}
 use Rattle.licence_main.specs.declared.status.Status.TheVariants.{NoMemory}
@@ -28,21 +28,21 @@ readings_append Failed (t ∷ ts) [] others behind are more = absurd are
 readings_append Failed (t ∷ ts) (r ∷ rs) others behind are more = (are.0, readings_append Failed ts rs others behind are.1 more)
 
 -- the readings of all files, of which this one is at this place
-told_at : {X : Type 0} (f : X → Bytes) (xs : List X) (i : ℕ) (x : X) → i < length xs → x ≡ get_or xs i x → get_or (map f xs) i (f x) ≡ f x
+pub told_at : {X Y : Type 0} (f : X → Y) (xs : List X) (i : ℕ) (x : X) → i < length xs → x ≡ get_or xs i x → get_or (map f xs) i (f x) ≡ f x
 told_at f xs i x within is = get_or-map f xs i x (f x) within ∙ ap f (sym is)
 
-within_map : {X : Type 0} (f : X → Bytes) (xs : List X) (i : ℕ) → i < length xs → i < length (map f xs)
+pub within_map : {X Y : Type 0} (f : X → Y) (xs : List X) (i : ℕ) → i < length xs → i < length (map f xs)
 within_map f xs i within = omega (arith, same_length f xs)
 
-told_around : {X : Type 0} (f : X → Bytes) (xs : List X) (i : ℕ) (x : X) → i < length xs → x ≡ get_or xs i x → take i (map f xs) ++ (f x ∷ drop (suc i) (map f xs)) ≡ map f xs
-told_around f xs i x within is =
-    let at : get_or (map f xs) i (f x) ∷ drop (suc i) (map f xs) ≡ f x ∷ drop (suc i) (map f xs) = ap (λ (b : Bytes). b ∷ drop (suc i) (map f xs)) (told_at f xs i x within is) in
+told_around : {X Y : Type 0} (f : X → Y) (xs : List X) (i : ℕ) (x : X) → i < length xs → x ≡ get_or xs i x → take i (map f xs) ++ (f x ∷ drop (suc i) (map f xs)) ≡ map f xs
+told_around {Y = Y} f xs i x within is =
+    let at : get_or (map f xs) i (f x) ∷ drop (suc i) (map f xs) ≡ f x ∷ drop (suc i) (map f xs) = ap (λ (b : Y). b ∷ drop (suc i) (map f xs)) (told_at f xs i x within is) in
     let from : drop i (map f xs) ≡ f x ∷ drop (suc i) (map f xs) = drop-cons (map f xs) i (f x) (within_map f xs i within) ∙ at in
-    ap (λ (l : List Bytes). take i (map f xs) ++ l) (sym from) ∙ take-append-drop i (map f xs)
+    ap (λ (l : List Y). take i (map f xs) ++ l) (sym from) ∙ take-append-drop i (map f xs)
 
-told_one_more : {X : Type 0} (f : X → Bytes) (xs : List X) (i : ℕ) (x : X) → i < length xs → x ≡ get_or xs i x → take i (map f xs) ++ f x ∷ [] ≡ take (i + 1) (map f xs)
-told_one_more f xs i x within is =
-    sym (take_more (map f xs) i (f x) (within_map f xs i within) ∙ ap (λ (b : Bytes). take i (map f xs) ++ b ∷ []) (told_at f xs i x within is))
+pub told_one_more : {X Y : Type 0} (f : X → Y) (xs : List X) (i : ℕ) (x : X) → i < length xs → x ≡ get_or xs i x → take i (map f xs) ++ f x ∷ [] ≡ take (i + 1) (map f xs)
+told_one_more {Y = Y} f xs i x within is =
+    sym (take_more (map f xs) i (f x) (within_map f xs i within) ∙ ap (λ (b : Y). take i (map f xs) ++ b ∷ []) (told_at f xs i x within is))
 
 -- one more was read and accepted
 pub one_more : {X : Type 0} (f : X → Bytes) (xs : List X) (Failed Wide : Type 0) (i : ℕ) (x : X) (options : OptionsFile) (sets : List OptionsFile) (r : Bytes) (further : OptionsFile) (number : ℕ)

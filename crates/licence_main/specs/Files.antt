@@ -1,21 +1,29 @@
 use Rattle.std.specs.Prelude.{◌≡◌, ℕ, Bool, ◌&&◌, List, [], ◌∷◌, map, Option, None, Some, IfSome, is_some}
 use Rattle.std.specs.List.{list_all}
-use Rattle.licence_main.specs.Command.{CheckFiles, CommandOf, Check, Replay, ReplayFiles}
+use Rattle.licence_main.specs.Command.{CheckFiles, Audit, CommandOf, Check, Replay, RunFiles}
 
 -- the bytes of a file or a sink: what it holds, as far as that is told, or what was read of a file, where its reading didn't fail
 abbrev pub Bytes : Type 0
 Bytes = Option (List ℕ)
 
+-- what the files of a replay or an audit hold, as far as that is told
+abbrev pub run_told : (List ℕ → Bytes) → RunFiles (List ℕ) → RunFiles Bytes
+run_told contents names = record { licence = contents names.licence; options = contents names.options; third = contents names.third; more = map contents names.more }
+
 -- what the files of a command hold, as far as that is told
 abbrev pub told_by : (List ℕ → Bytes) → CommandOf (List ℕ) → CommandOf Bytes
 told_by contents (Check names) = Check (record { licence = contents names.licence; options = contents names.options })
-told_by contents (Replay names) =
-    Replay (record { licence = contents names.licence; options = contents names.options; script = contents names.script; more = map contents names.more })
+told_by contents (Replay names) = Replay (run_told contents names)
+told_by contents (Audit names) = Audit (run_told contents names)
+
+abbrev pub is_run_told : RunFiles Bytes → Bool
+is_run_told told = is_some told.licence && (is_some told.options && (is_some told.third && list_all is_some told.more))
 
 -- whether it is told of each file what it holds
 abbrev pub are_told : CommandOf Bytes → Bool
 are_told (Check told) = is_some told.licence && is_some told.options
-are_told (Replay told) = is_some told.licence && (is_some told.options && (is_some told.script && list_all is_some told.more))
+are_told (Replay told) = is_run_told told
+are_told (Audit told) = is_run_told told
 
 -- what may be read of a file: just the bytes that it is told to hold, or any where nothing is told; and nothing where its reading failed
 abbrev pub IsReading : Type 0 → Bytes → Bytes → Type 0
@@ -34,16 +42,21 @@ pub record AreOfCheck (Failed : Type 0) (told readings : CheckFiles Bytes) : Typ
   pub licence : IsReading Failed told.licence readings.licence
   pub options : IsReading Failed told.options readings.options
 
--- the same of the files of a replay
-pub record AreOfReplay (Failed : Type 0) (told readings : ReplayFiles Bytes) : Type 0 where
+-- the same of the files of a replay or an audit
+pub record AreOfRun (Failed : Type 0) (told readings : RunFiles Bytes) : Type 0 where
   pub licence : IsReading Failed told.licence readings.licence
   pub options : IsReading Failed told.options readings.options
-  pub script : IsReading Failed told.script readings.script
+  pub third : IsReading Failed told.third readings.third
   pub more : AreReadings Failed told.more readings.more
 
 -- the same of the files of a command
 abbrev pub AreOfCommand : Type 0 → CommandOf Bytes → CommandOf Bytes → Type 0
 AreOfCommand Failed (Check told) (Check readings) = AreOfCheck Failed told readings
-AreOfCommand Failed (Replay told) (Replay readings) = AreOfReplay Failed told readings
+AreOfCommand Failed (Replay told) (Replay readings) = AreOfRun Failed told readings
+AreOfCommand Failed (Audit told) (Audit readings) = AreOfRun Failed told readings
 AreOfCommand Failed (Check told) (Replay readings) = ⊥
+AreOfCommand Failed (Check told) (Audit readings) = ⊥
 AreOfCommand Failed (Replay told) (Check readings) = ⊥
+AreOfCommand Failed (Replay told) (Audit readings) = ⊥
+AreOfCommand Failed (Audit told) (Check readings) = ⊥
+AreOfCommand Failed (Audit told) (Replay readings) = ⊥

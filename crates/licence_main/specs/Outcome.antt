@@ -1,13 +1,18 @@
-use Rattle.std.specs.Prelude.{ℕ, ◌+◌, nat_lt, if◌then◌else◌, ◌==◌, List, [], ◌∷◌, ◌++◌, length, None, Some, Result, Ok, Err}
+use Rattle.std.specs.Prelude.{ℕ, ◌+◌, nat_lt, if◌then◌else◌, ◌==◌, List, [], ◌∷◌, ◌++◌, length, map, ◌≡◌, None, Some, Result, Ok, Err}
 use Rattle.check_text.specs.Check.{check_of}
 use Rattle.feature_lines.specs.Licence.{Contents, licence_of}
+use Rattle.log_audit.specs.Audited.{sets_of}
+use Rattle.log_audit.specs.Log.{log_of}
+use Rattle.log_audit.specs.declared.log.Numbered.{Numbered}
+use Rattle.options_machine.specs.Rules.{Rules}
 use Rattle.options_text.specs.Answers.{◌>>=◌}
 use Rattle.options_text.specs.Options.{OptionsFile, options_of}
 use Rattle.options_text.specs.declared.fault.OptionsFault.{OptionsFault}
 use Rattle.script_text.specs.Script.{script_of}
 use Rattle.script_text.specs.declared.line.ScriptLine.{ScriptLine}
 use Rattle.scripts.specs.Script.{output_of}
-use Rattle.licence_main.specs.Command.{CheckFiles, CommandOf, Check, Replay, ReplayFiles}
+use Rattle.licence_main.specs.AuditText.{IsNo, IsYes}
+use Rattle.licence_main.specs.Command.{Audit, CheckFiles, CommandOf, Check, Replay, RunFiles}
 use Rattle.licence_main.specs.Files.{Bytes}
 use Rattle.licence_main.specs.declared.status.Status.{Status}
 use Rattle.licence_main.specs.declared.status.Status.TheVariants.{Licence, Options, MoreOptions, Script, ReadFault, FileTooLong}
@@ -26,7 +31,7 @@ accepted refused (Err fault) = Err (refused fault)
 unfoldable pub licence_heard : Bytes → Result Contents Status
 licence_heard reading = heard 1 reading >>= λ bytes. accepted Licence (licence_of bytes)
 
--- the position of the options file of a rule set: OPTIONS has number 0 and stands second, the further ones stand behind the script
+-- the position of the options file of a rule set: OPTIONS has number 0 and stands second, the further ones stand behind the third file
 abbrev pub position_of_set : ℕ → ℕ
 position_of_set set = if set == 0 then 2 else 3 + set
 
@@ -42,28 +47,57 @@ options_heard set reading = heard (position_of_set set) reading >>= λ bytes. ac
 unfoldable pub script_heard : Bytes → Result (List ScriptLine) Status
 script_heard reading = heard 3 reading >>= λ bytes. accepted Script (script_of bytes)
 
+-- the entries of the log, which is the third file, at so many pools
+unfoldable pub log_heard : ℕ → Bytes → Result (List Numbered) Status
+log_heard pools reading = heard 3 reading >>= λ bytes. accepted Script (log_of pools bytes)
+
 -- the options of these rule sets, and behind them those of the further options files, each of which is of the rule set whose number is how many stand before it
 unfoldable pub sets_heard : List OptionsFile → List Bytes → Result (List OptionsFile) Status
 sets_heard sets [] = Ok sets
 sets_heard sets (reading ∷ readings) = options_heard (length sets) reading >>= λ options. sets_heard (sets ++ options ∷ []) readings
 
+-- what is due where all files are accepted: this text, or the verdict on the entries of a log at pools with these rule sets
+pub data Due : Type 0 where
+  Text : (text : List ℕ) → Due
+  Verdict : (pools : List (List Rules)) (log : List Numbered) → Due
+
+-- this text is what is due, and the command is done with it
+abbrev pub IsTold : Due → List ℕ → Type 0
+IsTold (Text due) text = text ≡ due
+IsTold (Verdict pools log) text = IsYes pools log text
+
+-- this text is what is due, and tells that this line is the first that shows that the log is no run
+abbrev pub IsRefuted : Due → ℕ → List ℕ → Type 0
+IsRefuted (Text due) line text = ⊥
+IsRefuted (Verdict pools log) line text = IsNo pools log line text
+
 -- what comes of a check: its text, or the status of the first file at fault
-abbrev pub check_outcome : CheckFiles Bytes → Result (List ℕ) Status
+abbrev pub check_outcome : CheckFiles Bytes → Result Due Status
 check_outcome readings =
     licence_heard readings.licence >>= λ licence.
     (options_heard 0 readings.options >>= λ options.
-    Ok (check_of licence options))
+    Ok (Text (check_of licence options)))
 
--- what comes of a replay: the output of its script, or the status of the first file at fault
-abbrev pub replay_outcome : ReplayFiles Bytes → Result (List ℕ) Status
-replay_outcome readings =
+-- what comes of a replay or an audit, by what is heard of its third file under a licence and what is due for that, or the status of the first file at fault
+abbrev pub run_outcome : {T : Type 0} → (Contents → Bytes → Result T Status) → (Contents → List OptionsFile → T → Due) → RunFiles Bytes → Result Due Status
+run_outcome third_heard due readings =
     licence_heard readings.licence >>= λ licence.
     (options_heard 0 readings.options >>= λ options.
-    (script_heard readings.script >>= λ script.
+    (third_heard licence readings.third >>= λ third.
     (sets_heard (options ∷ []) readings.more >>= λ sets.
-    Ok (output_of licence.pools sets script))))
+    Ok (due licence sets third))))
 
--- what comes of a command by what is read of its files: the text that it writes, or the status of the first file at fault
-abbrev pub outcome_of : CommandOf Bytes → Result (List ℕ) Status
+-- what comes of a replay: the output of its script
+abbrev pub replay_outcome : RunFiles Bytes → Result Due Status
+replay_outcome readings = run_outcome (λ licence. script_heard) (λ licence sets script. Text (output_of licence.pools sets script)) readings
+
+-- what comes of an audit: its verdict on the log's entries
+abbrev pub audit_outcome : RunFiles Bytes → Result Due Status
+audit_outcome readings =
+    run_outcome (λ licence. log_heard (length licence.pools)) (λ licence sets log. Verdict (map (sets_of sets) licence.pools) log) readings
+
+-- what comes of a command by what is read of its files: what is due, or the status of the first file at fault
+abbrev pub outcome_of : CommandOf Bytes → Result Due Status
 outcome_of (Check readings) = check_outcome readings
 outcome_of (Replay readings) = replay_outcome readings
+outcome_of (Audit readings) = audit_outcome readings

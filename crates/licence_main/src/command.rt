@@ -1,7 +1,23 @@
 ghost use Rattle.std.specs.Prelude.{◌≡◌, map, string_bytes};
 ghost use Rattle.std.specs.List.{list_all};
 ghost use Rattle.std.specs.Option.{option_map};
-ghost use Rattle.licence_main.specs.Command.{check_of, command_of, is_plain_word, named, replay_of};
+ghost use Rattle.licence_main.specs.Command.{check_of, command_of, is_plain_word, named, run_named, run_of, third_in};
+ghost use Rattle.licence_main.specs.Words.{command_in};
+
+use crate::words::Words;
+
+/// The names of the files of a replay or an audit.
+#[derive(Clone, Copy, Debug)]
+pub struct RunNames<'a> {
+    /// The name of the licence file.
+    pub licence: &'a str,
+    /// The name of the options file, whose rules hold at first.
+    pub options: &'a str,
+    /// The name of the third file: the script of a replay, or the log of an audit.
+    pub third: &'a str,
+    /// The names of the further options files, three at most, whose rules the third file may ask for.
+    pub more: &'a [String],
+}
 
 /// A command, with the names of its files.
 #[derive(Clone, Copy, Debug)]
@@ -14,16 +30,18 @@ pub enum Command<'a> {
         options: &'a str,
     },
     /// Replays a script of requests against a licence and an options file.
-    Replay {
-        /// The name of the licence file.
-        licence: &'a str,
-        /// The name of the options file, whose rules hold at first.
-        options: &'a str,
-        /// The name of the script.
-        script: &'a str,
-        /// The names of the further options files, three at most, whose rules a script may ask for.
-        more: &'a [String],
-    },
+    Replay(RunNames<'a>),
+    /// Judges a log by a licence and options files.
+    Audit(RunNames<'a>),
+}
+
+/// What the third file of a command is.
+#[derive(Clone, Copy, Debug, PartialEq, Eq)]
+pub enum Third {
+    /// The script of a replay. So it is also said of a command that has no third file.
+    Script,
+    /// The log of an audit.
+    Log,
 }
 
 /// The most further options files that a command may name.
@@ -64,28 +82,28 @@ fn read_check(names: &[String]) -> Option<Command<'_>>
     }
 }
 
-/// The replay of three to six words that may name files. `None` comes exactly where they aren't.
-fn read_replay(names: &[String]) -> Option<Command<'_>>
-    ensures { option_map named result ≡ replay_of (map string_bytes names.now) }
+/// The files of a replay or an audit: three to six words that may name files. `None` comes exactly where they aren't.
+fn read_run(names: &[String]) -> Option<RunNames<'_>>
+    ensures { option_map run_named result ≡ run_of (map string_bytes names.now) }
 {
-    let [licence, options, script, more @ ..] = names else {
+    let [licence, options, third, more @ ..] = names else {
         return None;
     };
-    let command = Command::Replay {
+    let run = RunNames {
         licence: licence.as_str(),
         options: options.as_str(),
-        script: script.as_str(),
+        third: third.as_str(),
         more,
     };
     if are_plain(names) && more.len() <= MORE_LIMIT {
-        Some(command)
+        Some(run)
     } else {
         None
     }
 }
 
 /// The command that the words are, without the program's name. `None` comes exactly where they are neither `check` and
-/// two words that may name files, nor `replay` and three to six of them.
+/// two words that may name files, nor `replay` or `audit` and three to six of them.
 pub fn read_command(words: &[String]) -> Option<Command<'_>>
     ensures { option_map named result ≡ command_of (map string_bytes words.now) }
 {
@@ -95,8 +113,23 @@ pub fn read_command(words: &[String]) -> Option<Command<'_>>
     if verb.as_str() == "check" {
         read_check(names)
     } else if verb.as_str() == "replay" {
-        read_replay(names)
+        Some(Command::Replay(read_run(names)?))
+    } else if verb.as_str() == "audit" {
+        Some(Command::Audit(read_run(names)?))
     } else {
         None
+    }
+}
+
+/// What the third file of the command is that the words ask for.
+pub fn third_of(words: &Words) -> Third
+    ensures { result ≡ third_in (command_in words.now) }
+{
+    let Words::Text(words) = words else {
+        return Third::Script;
+    };
+    match read_command(words.as_slice()) {
+        Some(Command::Audit(_)) => Third::Log,
+        _ => Third::Script,
     }
 }

@@ -1,13 +1,14 @@
 ghost use Rattle.std.specs.Prelude.{◌≡◌, ◌+◌, ◌≤◌, ◌++◌, codes, decimal, length, take};
 ghost use Rattle.licence_main.specs.FaultText.{licence_line, licence_text, options_line, options_text};
-ghost use Rattle.licence_main.specs.Status.{fault_line, file_called, line_of, set_called};
+ghost use Rattle.licence_main.specs.Status.{fault_line, file_called, line_of, set_called, third_called};
 
+use crate::command::Third;
 use crate::fault_text::{licence_line, options_line, options_text, put_licence_text};
 use crate::room::{ROOM, put, put_number};
 use crate::status::Status;
-use audit_log::ScriptFault;
 use feature_lines::LicenceFault;
 use options_text::OptionsFault;
+use script_words::ScriptFault;
 
 /// Writes what the options file of a rule set behind the first is called.
 fn put_set(room: &mut [u8; ROOM], set: u8) -> usize
@@ -18,15 +19,26 @@ fn put_set(room: &mut [u8; ROOM], set: u8) -> usize
     put_number(room, at, u32::from(set))
 }
 
-/// Writes what the file at a position is called.
-fn put_file(room: &mut [u8; ROOM], file: u8) -> usize
+/// Writes what the third file is called.
+fn put_third(room: &mut [u8; ROOM], third: Third) -> usize
     ensures place { result ≤ 28 }
-    ensures written { take result room.new ≡ file_called file }
+    ensures written { take result room.new ≡ third_called third }
+{
+    match third {
+        Third::Script => put(room, 0, b"script"),
+        Third::Log => put(room, 0, b"log"),
+    }
+}
+
+/// Writes what the file at a position is called.
+fn put_file(room: &mut [u8; ROOM], third: Third, file: u8) -> usize
+    ensures place { result ≤ 28 }
+    ensures written { take result room.new ≡ file_called third file }
 {
     match file {
         1 => put(room, 0, b"licence"),
         2 => put(room, 0, b"options"),
-        3 => put(room, 0, b"script"),
+        3 => put_third(room, third),
         _ => put_set(room, file.saturating_sub(3)),
     }
 }
@@ -63,43 +75,44 @@ fn put_options_fault(room: &mut [u8; ROOM], at: usize, fault: &OptionsFault) -> 
     put(room, at, b"\n")
 }
 
-fn put_script_fault(room: &mut [u8; ROOM], fault: &ScriptFault) -> usize
+fn put_script_fault(room: &mut [u8; ROOM], third: Third, fault: &ScriptFault) -> usize
     ensures place { result ≤ 96 }
-    ensures written { take result room.new ≡ line_of (Status.Script fault.now) }
+    ensures written { take result room.new ≡ line_of third (Status.Script fault.now) }
 {
-    let at = put(room, 0, b"script");
+    let at = put_third(room, third);
     let at = put_line(room, at, fault.line);
     let at = put(room, at, fault.fault.text().as_bytes());
     put(room, at, b"\n")
 }
 
 /// Writes the line for standard error, which is none for `Done`, and gives its length.
-pub fn put_status(room: &mut [u8; ROOM], status: &Status) -> usize
+pub fn put_status(room: &mut [u8; ROOM], third: Third, status: &Status) -> usize
     ensures place { result ≤ 96 }
-    ensures written { take result room.new ≡ line_of status.now }
+    ensures written { take result room.new ≡ line_of third status.now }
 {
     match status {
         Status::Done => 0,
         Status::Usage => put(room, 0, b"usage\n"),
         Status::Licence(fault) => put_licence_fault(room, fault),
         Status::Options(fault) => {
-            let at = put_file(room, 2);
+            let at = put_file(room, third, 2);
             put_options_fault(room, at, fault)
         }
         Status::MoreOptions(set, fault) => {
             let at = put_set(room, *set);
             put_options_fault(room, at, fault)
         }
-        Status::Script(fault) => put_script_fault(room, fault),
+        Status::Script(fault) => put_script_fault(room, third, fault),
         Status::ReadFault(file) => {
-            let at = put_file(room, *file);
+            let at = put_file(room, third, *file);
             put(room, at, b": read fault\n")
         }
         Status::WriteFault => put(room, 0, b"write fault\n"),
         Status::NoMemory => put(room, 0, b"no memory\n"),
         Status::FileTooLong(file) => {
-            let at = put_file(room, *file);
+            let at = put_file(room, third, *file);
             put(room, at, b": longer than 1048576 bytes\n")
         }
+        Status::AuditNo(_) => put(room, 0, b"log: not a run\n"),
     }
 }

@@ -1,6 +1,7 @@
 //! The tools of the floating licence daemon.
 #![tactic(auto)]
 
+mod audit_text;
 mod command;
 mod err_line;
 mod fault_text;
@@ -11,19 +12,17 @@ mod status;
 #[cfg(test)]
 mod tests;
 mod tool;
+mod words;
 
 use outside::{RealFiles, RealSink};
+use std::env;
 use std::process::ExitCode;
-use std::{env, io};
 
-fn main(rt: HostRuntime) -> io::Result<ExitCode> {
-    let mut words = Vec::new(rt.alloc());
-    for word in env::args(&rt)?.skip(1) {
-        words.push(word)?;
-    }
-    let mut files = RealFiles::of(rt.clone()?);
+fn main(rt: HostRuntime) -> ExitCode {
+    let words = words::words_of(rt.alloc(), env::args(&rt));
+    let mut files = RealFiles::of(rt.alloc(), &rt);
     let mut out = RealSink::of(rt.stdout());
     let mut err = RealSink::of(rt.stderr());
-    let status = tool::tool(rt.alloc(), words.as_slice(), &mut files, &mut out, &mut err);
-    Ok(ExitCode::from(status.code()))
+    let status = tool::tool(rt.alloc(), &words, &mut files, &mut out, &mut err);
+    ExitCode::from(status.code())
 }

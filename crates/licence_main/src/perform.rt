@@ -1,19 +1,32 @@
-ghost use Rattle.std.specs.Prelude.{◌≡◌, ◌<◌, ◌≤◌, ◌↔◌, ℕ, List, None, length, map, string_bytes, true};
+ghost use Rattle.std.specs.Prelude.{◌≡◌, ◌<◌, ◌≤◌, ◌↔◌, ◌⊎◌, ◌∷◌, [], ℕ, List, None, OnErr, OnOk, length, map, string_bytes, true};
 ghost use Rattle.std.specs.List.{list_all};
 ghost use Rattle.check_text.specs.Check.{check_of};
-ghost use Rattle.outside.specs.Told.{HasRisen};
+ghost use Rattle.log_audit.specs.Audited.{sets_of};
+ghost use Rattle.log_audit.specs.Log.{is_fit as is_fit_at};
+ghost use Rattle.outside.specs.Told.{HasRisen, TakesFront, told_with};
 ghost use Rattle.script_text.specs.Fits.{is_fit};
+ghost use Rattle.scripts.specs.Laws.{Histories};
 ghost use Rattle.scripts.specs.Script.{output_of};
-ghost use Rattle.licence_main.specs.Command.{command_of, Check, Replay};
-ghost use Rattle.licence_main.specs.Tool.{ForFiles, IsDone, WritingSays, status_of};
+ghost use Rattle.licence_main.specs.Asked.{Asks, HasFailed, files_of};
+ghost use Rattle.licence_main.specs.AuditText.{no_text, yes_text};
+ghost use Rattle.licence_main.specs.Command.{command_of, Audit, Check, Replay};
+ghost use Rattle.licence_main.specs.Outcome.{Verdict};
+ghost use Rattle.licence_main.specs.Tool.{DueSays, ForFiles, IsDone, WritingSays, status_of};
+ghost use Rattle.licence_main.specs.Words.{IsNoCommand, command_in};
 
+use crate::audit_text::{NO_ROOM, put_no, yes_text};
 use crate::command::{Command, read_command};
-use crate::reading::{read_licence_file, read_options_file, read_script_file, read_sets};
+use crate::reading::{
+    read_licence_file, read_log_file, read_options_file, read_script_file, read_sets,
+};
 use crate::status::Status;
+use crate::words::Words;
 use check_text::check_text;
 use feature_lines::Licence;
+use log_audit::{Audited, Numbered, Sums, audit_entries};
+use options_machine::Reply;
 use options_text::Options;
-use outside::{Files, Sink};
+use outside::{Files, Sink, WriteFailed};
 use script_text::ScriptLine;
 use scripts::{PlayFault, play};
 use std::alloc::Global;
@@ -47,12 +60,74 @@ fn write_replay<O: Sink>(
     requires fit { list_all is_fit script.now ≡ true }
     requires some { 0 < length sets.now }
     requires few { length sets.now ≤ 4 }
-    ensures { WritingSays (HasRisen (O.faults out.old) (O.faults out.new)) (O.held out.old) (O.held out.new) (output_of licence.now.pools sets.now script.now) (status_of result) }
+    ensures says { WritingSays (HasRisen (O.faults out.old) (O.faults out.new)) (O.held out.old) (O.held out.new) (output_of licence.now.pools sets.now script.now) (status_of result) }
+    ensures histories { Histories licence.now.pools sets.now script.now }
 {
     match play(alloc, licence, sets, script, out) {
         Ok(()) => Ok(()),
         Err(PlayFault::WriteFailed) => Err(Status::WriteFault),
         Err(PlayFault::NoMemory) => Err(Status::NoMemory),
+    }
+}
+
+/// Writes that a log is a run, with its sums.
+fn write_yes<O: Sink>(alloc: Global, sums: &Sums, out: &mut O) -> Result<(), Status>
+    ensures { WritingSays (HasRisen (O.faults out.old) (O.faults out.new)) (O.held out.old) (O.held out.new) (yes_text sums.now) (status_of result) }
+{
+    let Ok(text) = yes_text(alloc, sums) else {
+        return Err(Status::NoMemory);
+    };
+    match out.write(text.as_slice()) {
+        Ok(()) => Ok(()),
+        Err(_) => Err(Status::WriteFault),
+    }
+}
+
+/// Writes that a log is no run, with its first line that shows it and what holds there.
+fn write_no<O: Sink>(
+    line: u32,
+    place: u64,
+    moment: u64,
+    reply: &Reply,
+    out: &mut O,
+) -> Result<(), WriteFailed>
+    ensures ok { OnOk result (O.held out.new ≡ told_with (O.held out.old) (no_text line place moment reply.now)) }
+    ensures err { OnErr result (TakesFront (O.held out.old) (O.held out.new) (no_text line place moment reply.now)) }
+    ensures failed { OnErr result (HasRisen (O.faults out.old) (O.faults out.new)) }
+{
+    let mut room = [0; NO_ROOM];
+    let end = put_no(&mut room, line, place, moment, reply);
+    out.write(&room[..end])
+}
+
+/// Writes what an audit shows of the entries of a log. `AuditNo` comes where they are no run and that was written.
+#[tactic(auto, using(crate::proofs::Verdicts::no_written))]
+fn write_audit<O: Sink>(
+    alloc: Global,
+    licence: &Licence,
+    sets: &[Options],
+    log: &[Numbered],
+    out: &mut O,
+) -> Result<(), Status>
+    requires fit { list_all (is_fit_at (length licence.now.pools)) log.now ≡ true }
+    requires some { 0 < length sets.now }
+    requires few { length sets.now ≤ 4 }
+    ensures { DueSays (HasRisen (O.faults out.old) (O.faults out.new)) (O.held out.old) (O.held out.new) (Verdict (map (sets_of sets.now) licence.now.pools) log.now) (status_of result) }
+{
+    match audit_entries(alloc, licence, sets, log) {
+        Ok(Audited::Yes(sums)) => write_yes(alloc, &sums, out),
+        Ok(
+            Audited::No {
+                line,
+                place,
+                moment,
+                reply,
+            },
+        ) => match write_no(line, place, moment, &reply, out) {
+            Ok(()) => Err(Status::AuditNo(line)),
+            Err(_) => Err(Status::WriteFault),
+        },
+        Err(_) => Err(Status::NoMemory),
     }
 }
 
@@ -64,7 +139,8 @@ fn check<F: Files, O: Sink>(
     files: &mut F,
     out: &mut O,
 ) -> Result<(), Status>
-    ensures { IsDone (HasRisen (F.faults files.old) (F.faults files.new)) (HasRisen (O.faults out.old) (O.faults out.new))
+    ensures asked { Asks 1 (licence.now ∷ options.now ∷ []) (F.asked files.old) (F.asked files.new) (F.failed files.old) (F.failed files.new) (status_of result) }
+    ensures says { IsDone (HasFailed (F.failed files.old) (F.failed files.new)) (HasRisen (O.faults out.old) (O.faults out.new))
         (Check (record { licence = F.contents files.old licence.now; options = F.contents files.old options.now }))
         (O.held out.old) (O.held out.new) (status_of result) }
 {
@@ -84,8 +160,9 @@ fn replay<F: Files, O: Sink>(
     out: &mut O,
 ) -> Result<(), Status>
     requires { length more.now ≤ 3 }
-    ensures { IsDone (HasRisen (F.faults files.old) (F.faults files.new)) (HasRisen (O.faults out.old) (O.faults out.new))
-        (Replay (record { licence = F.contents files.old licence.now; options = F.contents files.old options.now; script = F.contents files.old script.now; more = map (λ name. F.contents files.old (string_bytes name)) more.now }))
+    ensures asked { Asks 1 (licence.now ∷ options.now ∷ script.now ∷ map string_bytes more.now) (F.asked files.old) (F.asked files.new) (F.failed files.old) (F.failed files.new) (status_of result) }
+    ensures says { IsDone (HasFailed (F.failed files.old) (F.failed files.new)) (HasRisen (O.faults out.old) (O.faults out.new))
+        (Replay (record { licence = F.contents files.old licence.now; options = F.contents files.old options.now; third = F.contents files.old script.now; more = map (λ name. F.contents files.old (string_bytes name)) more.now }))
         (O.held out.old) (O.held out.new) (status_of result) }
 {
     let licence = read_licence_file(alloc, files, licence)?;
@@ -93,6 +170,29 @@ fn replay<F: Files, O: Sink>(
     let script = read_script_file(alloc, files, script)?;
     let sets = read_sets(alloc, files, more, options)?;
     write_replay(alloc, &licence, sets.as_slice(), script.as_slice(), out)
+}
+
+/// Judges a log by a licence and options files.
+fn audit<F: Files, O: Sink>(
+    alloc: Global,
+    licence: &str,
+    options: &str,
+    log: &str,
+    further: &[String],
+    files: &mut F,
+    out: &mut O,
+) -> Result<(), Status>
+    requires { length further.now ≤ 3 }
+    ensures asked { Asks 1 (licence.now ∷ options.now ∷ log.now ∷ map string_bytes further.now) (F.asked files.old) (F.asked files.new) (F.failed files.old) (F.failed files.new) (status_of result) }
+    ensures says { IsDone (HasFailed (F.failed files.old) (F.failed files.new)) (HasRisen (O.faults out.old) (O.faults out.new))
+        (Audit (record { licence = F.contents files.old licence.now; options = F.contents files.old options.now; third = F.contents files.old log.now; more = map (λ name. F.contents files.old (string_bytes name)) further.now }))
+        (O.held out.old) (O.held out.new) (status_of result) }
+{
+    let licence = read_licence_file(alloc, files, licence)?;
+    let options = read_options_file(alloc, files, options, 0)?;
+    let log = read_log_file(alloc, files, log, licence.pools().len())?;
+    let sets = read_sets(alloc, files, further, options)?;
+    write_audit(alloc, &licence, sets.as_slice(), log.as_slice(), out)
 }
 
 /// The status of what was done.
@@ -105,8 +205,8 @@ fn status_of(done: Result<(), Status>) -> Status
     }
 }
 
-/// Does what the words ask for, without the line on standard error.
-pub fn perform<F: Files, O: Sink>(
+/// Does what these words ask for, without the line on standard error.
+fn perform_words<F: Files, O: Sink>(
     alloc: Global,
     words: &[String],
     files: &mut F,
@@ -114,8 +214,9 @@ pub fn perform<F: Files, O: Sink>(
 ) -> Status
     ensures usage { (result ≡ Status.Usage) ↔ (command_of (map string_bytes words.now) ≡ None) }
     ensures unwritten { result ≡ Status.Usage → O.held out.new ≡ O.held out.old }
+    ensures asked { Asks 1 (files_of (command_of (map string_bytes words.now))) (F.asked files.old) (F.asked files.new) (F.failed files.old) (F.failed files.new) result }
     ensures says { ForFiles (command_of (map string_bytes words.now)) (F.contents files.old) (λ told.
-        IsDone (HasRisen (F.faults files.old) (F.faults files.new)) (HasRisen (O.faults out.old) (O.faults out.new)) told
+        IsDone (HasFailed (F.failed files.old) (F.failed files.new)) (HasRisen (O.faults out.old) (O.faults out.new)) told
         (O.held out.old) (O.held out.new) result) }
 {
     match read_command(words) {
@@ -123,13 +224,46 @@ pub fn perform<F: Files, O: Sink>(
         Some(Command::Check { licence, options }) => {
             status_of(check(alloc, licence, options, files, out))
         }
-        Some(
-            Command::Replay {
-                licence,
-                options,
-                script,
-                more,
-            },
-        ) => status_of(replay(alloc, licence, options, script, more, files, out)),
+        Some(Command::Replay(names)) => status_of(replay(
+            alloc,
+            names.licence,
+            names.options,
+            names.third,
+            names.more,
+            files,
+            out,
+        )),
+        Some(Command::Audit(names)) => status_of(audit(
+            alloc,
+            names.licence,
+            names.options,
+            names.third,
+            names.more,
+            files,
+            out,
+        )),
+    }
+}
+
+/// Does what the words ask for, without the line on standard error.
+pub fn perform<F: Files, O: Sink>(
+    alloc: Global,
+    words: &Words,
+    files: &mut F,
+    out: &mut O,
+) -> Status
+    ensures usage { (result ≡ Status.Usage) ↔ IsNoCommand words.now }
+    ensures no_words { words.now ≡ Words.NoMemory → result ≡ Status.NoMemory }
+    ensures idle { command_in words.now ≡ None → (result ≡ Status.Usage) ⊎ (result ≡ Status.NoMemory) }
+    ensures unwritten { command_in words.now ≡ None → O.held out.new ≡ O.held out.old }
+    ensures asked { Asks 1 (files_of (command_in words.now)) (F.asked files.old) (F.asked files.new) (F.failed files.old) (F.failed files.new) result }
+    ensures says { ForFiles (command_in words.now) (F.contents files.old) (λ told.
+        IsDone (HasFailed (F.failed files.old) (F.failed files.new)) (HasRisen (O.faults out.old) (O.faults out.new)) told
+        (O.held out.old) (O.held out.new) result) }
+{
+    match words {
+        Words::Text(words) => perform_words(alloc, words.as_slice(), files, out),
+        Words::NotText => Status::Usage,
+        Words::NoMemory => Status::NoMemory,
     }
 }

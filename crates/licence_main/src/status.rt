@@ -1,13 +1,13 @@
 ghost use Rattle.std.specs.Prelude.{◌≡◌};
 ghost use Rattle.licence_main.specs.Status.{code_of};
 
-use audit_log::ScriptFault;
 use feature_lines::LicenceFault;
 use options_text::OptionsFault;
+use script_words::ScriptFault;
 use std::alloc::AllocFailed;
 
-/// How a command ends. A file is told by its position: 1 is the licence, 2 the options file, 3 the script, and the
-/// further options files stand behind it.
+/// How a command ends. A file is told by its position: 1 is the licence, 2 the options file, 3 the script or the log,
+/// and the further options files stand behind it.
 #[derive(Clone, Copy, Debug, PartialEq, Eq)]
 pub enum Status {
     /// Every file was read to its end and accepted, and all was written.
@@ -20,7 +20,7 @@ pub enum Status {
     Options(OptionsFault),
     /// The further options file of this number, from 1, is refused.
     MoreOptions(u8, OptionsFault),
-    /// The script is refused.
+    /// The script of a replay is refused, or the log of an audit.
     Script(ScriptFault),
     /// The file at this position wasn't read.
     ReadFault(u8),
@@ -30,6 +30,8 @@ pub enum Status {
     NoMemory,
     /// The file at this position is longer than 1,048,576 bytes.
     FileTooLong(u8),
+    /// Every file was accepted, and the log is no run: this line, by its number from 1, is the first that shows it.
+    AuditNo(u32),
 }
 
 impl Status {
@@ -47,6 +49,7 @@ impl Status {
             Status::WriteFault => 7,
             Status::NoMemory => 8,
             Status::FileTooLong(_) => 10,
+            Status::AuditNo(_) => 11,
         }
     }
 }

@@ -1,10 +1,15 @@
 use crate::status::Status;
 use crate::tool::tool;
+use crate::words;
+use crate::words::Words;
 use outside::{MemFile, MemFiles, MemSink};
 use std::alloc::{AllocError, Global};
+use std::io;
+use std::io::ErrorKind;
 use std::process::Abort;
 use std::test::Fail;
 
+mod audit;
 mod faults;
 mod limits;
 mod rows;
@@ -35,12 +40,12 @@ const REPLAY_MORE: [&str; 7] = [
 /// A licence of one pool with two licences.
 const TWO: &[u8] = b"FEATURE edit acme 2.0 permanent 2 SIGN=00AB\n";
 
-fn words_of(alloc: Global, words: &[&str]) -> Result<Vec<String>, AllocError> {
+fn words_of(alloc: Global, words: &[&str]) -> Result<Words, AllocError> {
     let mut made = Vec::new(alloc);
     for word in words {
         made.push(String::from_str(alloc, word)?)?;
     }
-    Ok(made)
+    Ok(Words::Text(made))
 }
 
 fn files_of(alloc: Global, held: &[Held<'_>], failing: &[u64]) -> Result<MemFiles, AllocError> {
@@ -51,7 +56,8 @@ fn files_of(alloc: Global, held: &[Held<'_>], failing: &[u64]) -> Result<MemFile
             bytes: Vec::from_slice(alloc, bytes)?,
         })?;
     }
-    Ok(MemFiles::make(files, Vec::from_slice(alloc, failing)?))
+    let failing = Vec::from_slice(alloc, failing)?;
+    Ok(MemFiles::make(alloc, files, failing))
 }
 
 /// Runs a command on these files; the reads and the writes of these numbers, counted from 0, fail.
@@ -66,7 +72,7 @@ fn run_failing(
     let mut files = files_of(alloc, held, reads)?;
     let mut out = MemSink::make(alloc, 262_144, Vec::from_slice(alloc, writes)?)?;
     let mut err = MemSink::make(alloc, 4096, Vec::new(alloc))?;
-    let status = tool(alloc, words.as_slice(), &mut files, &mut out, &mut err);
+    let status = tool(alloc, &words, &mut files, &mut out, &mut err);
     Ok(Ended {
         out: out.bytes,
         err: err.bytes,
@@ -103,7 +109,7 @@ fn expect_check(
 
 #[test]
 fn words_that_are_no_command(rt: HostRuntime) -> Result<(), Fail> {
-    let rows: [&[&str]; 16] = [
+    let rows: [&[&str]; 18] = [
         &[],
         &["check"],
         &["check", "licence"],
@@ -119,6 +125,8 @@ fn words_that_are_no_command(rt: HostRuntime) -> Result<(), Fail> {
         &["replay", "licence", "options", "script", "a", "b", "-c"],
         &["replay", "licence", "options", "script", "a", "b", "c", "d"],
         &["replays", "licence", "options", "script"],
+        &["audit", "licence", "options"],
+        &["audit", "licence", "options", "log", "a", "b", "c", "d"],
         &["trial", "licence", "options", "script"],
     ];
     let held = [("licence", TWO), ("options", b""), ("script", b"")];
@@ -130,12 +138,30 @@ fn words_that_are_no_command(rt: HostRuntime) -> Result<(), Fail> {
 }
 
 #[test]
+fn words_that_could_not_be_read(rt: HostRuntime) -> Result<(), Fail> {
+    let rows: [(ErrorKind, u8, &[u8]); 2] = [
+        (ErrorKind::InvalidData, 2, b"usage\n"),
+        (ErrorKind::OutOfMemory, 8, b"no memory\n"),
+    ];
+    for (kind, code, line) in rows {
+        let words = words::words_of(rt.alloc(), Err(io::Error::from(kind)));
+        let mut files = files_of(rt.alloc(), &[], &[])?;
+        let mut out = MemSink::make(rt.alloc(), 16, Vec::new(rt.alloc()))?;
+        let mut err = MemSink::make(rt.alloc(), 16, Vec::new(rt.alloc()))?;
+        let status = tool(rt.alloc(), &words, &mut files, &mut out, &mut err);
+        assert_eq!(rt; status.code(), code);
+        assert!(rt; err.bytes.as_slice() == line);
+    }
+    Ok(())
+}
+
+#[test]
 fn a_fault_of_standard_error_changes_no_status(rt: HostRuntime) -> Result<(), Fail> {
     let words = words_of(rt.alloc(), &["replay", "a", "b"])?;
     let mut files = files_of(rt.alloc(), &[], &[])?;
     let mut out = MemSink::make(rt.alloc(), 16, Vec::new(rt.alloc()))?;
     let mut err = MemSink::make(rt.alloc(), 3, Vec::new(rt.alloc()))?;
-    let status = tool(rt.alloc(), words.as_slice(), &mut files, &mut out, &mut err);
+    let status = tool(rt.alloc(), &words, &mut files, &mut out, &mut err);
     assert_eq!(rt; status, Status::Usage);
     assert_eq!(rt; err.bytes.len(), 0);
     Ok(())

@@ -2,14 +2,16 @@
 //! faults; both in memory for tests, and over the real system.
 #![tactic(auto)]
 
+mod asked;
 mod files;
 mod memory;
 mod real;
 mod sink;
 
+pub use asked::Asked;
 pub use files::{FileFault, Files};
 pub use memory::{MemFile, MemFiles, MemSink};
-pub use real::{RealFiles, RealSink};
+pub use real::{RealFiles, RealSink, read_all, write_all};
 pub use sink::{Sink, WriteFailed};
 
 #[cfg(test)]

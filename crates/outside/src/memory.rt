@@ -1,9 +1,10 @@
-ghost use Rattle.std.specs.Prelude.{◌≡◌, ◌+◌, ◌≤◌, find, nat_eq, ◌<◌, [], IfOk, IfSome, Some, length, vec_capacity, vec_len, string_bytes};
+ghost use Rattle.std.specs.Prelude.{◌≡◌, ◌≢◌, ◌⊎◌, ◌+◌, ◌%◌, ◌^◌, ◌≤◌, find, nat_eq, ◌<◌, ℕ, List, [], ◌∷◌, ◌++◌, IfOk, OnOk, OnErr, IsOk, IsErr, IfSome, IsNone, IsSome, Some, false, true, length, map, vec_capacity, vec_len, string_bytes};
 ghost use Rattle.std.specs.Cmp.Lexicographic.{pointwise};
 ghost use Rattle.std.specs.Option.{option_copied};
-ghost use Rattle.outside.specs.Memory.{file_named};
-ghost use Rattle.outside.specs.Told.{HasRisen};
+ghost use Rattle.outside.specs.Memory.{file_named, is_listed};
+ghost use Rattle.outside.specs.Told.{HasRisen, TakesFront, told_with};
 
+use crate::asked::Asked;
 use crate::files::{FileFault, Files};
 use crate::sink::{Sink, WriteFailed};
 use std::alloc::{AllocError, Global};
@@ -32,10 +33,10 @@ pub struct MemFiles {
     pub files: Vec<MemFile>,
     /// The calls that fail, counted from 0.
     pub failing: Vec<u64>,
-    /// How many calls there were.
+    /// How many calls there were, modulo 2^64.
     pub calls: u64,
-    /// How many of them failed.
-    pub faults: u64,
+    /// The names that were asked for, and those whose reading failed.
+    pub asked: Asked,
 }
 
 fn find_named<'a>(files: &'a [MemFile], name: &str) -> Option<&'a MemFile>
@@ -53,6 +54,7 @@ fn copy_named(
     ensures read { IfOk result (λ bytes. file_named files.now name.now ≡ Some bytes.items) }
     ensures short { IfOk result (λ bytes. vec_len bytes ≤ limit) }
     ensures too_long { result ≡ Err FileFault.TooLong → IfSome (file_named files.now name.now) (λ told. limit < length told) }
+    ensures absent { result ≡ Err FileFault.Failed → IsNone (file_named files.now name.now) }
 {
     let Some(file) = find_named(files, name) else {
         return Err(FileFault::Failed);
@@ -68,37 +70,64 @@ fn copy_named(
 
 impl MemFiles {
     /// These files, of which the calls of these numbers, counted from 0, fail.
-    pub fn make(files: Vec<MemFile>, failing: Vec<u64>) -> MemFiles
-        ensures { result ≡ record { files = files; failing = failing; calls = 0; faults = 0 } }
+    pub fn make(alloc: Global, files: Vec<MemFile>, failing: Vec<u64>) -> MemFiles
+        ensures files { result.files ≡ files }
+        ensures failing { result.failing ≡ failing }
+        ensures calls { result.calls ≡ 0 }
+        ensures asked { map string_bytes result.asked.names.items ≡ [] }
+        ensures failed { map string_bytes result.asked.failed.items ≡ [] }
     {
         MemFiles {
             files,
             failing,
             calls: 0,
-            faults: 0,
+            asked: Asked::none(alloc),
         }
     }
 }
 
 impl Files for MemFiles {
-    ghost use Rattle.outside.specs.Memory.{file_named};
+    ghost asked = { λ m. map string_bytes m.asked.names.items };
 
-    ghost faults = { λ m. m.faults };
+    ghost failed = { λ m. map string_bytes m.asked.failed.items };
 
     ghost contents = { λ m name. file_named m.files.items name };
 
-    fn read(&mut self, alloc: Global, name: &str, limit: usize) -> Result<Vec<u8>, FileFault> {
+    fn read(&mut self, alloc: Global, name: &str, limit: usize) -> Result<Vec<u8>, FileFault>
+        ensures read { IfOk result (λ bytes. IfSome (file_named self.old.files.items name.now) (λ told. bytes.items ≡ told)) }
+        ensures short { IfOk result (λ bytes. vec_len bytes ≤ limit) }
+        ensures too_long { result ≡ Err FileFault.TooLong → IfSome (file_named self.old.files.items name.now) (λ told. limit < length told) }
+        ensures asked { result ≢ Err FileFault.NoMemory
+            → map string_bytes self.new.asked.names.items ≡ map string_bytes self.old.asked.names.items ++ name.now ∷ [] }
+        ensures unasked { result ≡ Err FileFault.NoMemory
+            → (map string_bytes self.new.asked.names.items ≡ map string_bytes self.old.asked.names.items)
+            ⊎ (map string_bytes self.new.asked.names.items ≡ map string_bytes self.old.asked.names.items ++ name.now ∷ []) }
+        ensures failed { result ≡ Err FileFault.Failed
+            → map string_bytes self.new.asked.failed.items ≡ map string_bytes self.old.asked.failed.items ++ name.now ∷ [] }
+        ensures steady { result ≢ Err FileFault.Failed
+            → map string_bytes self.new.asked.failed.items ≡ map string_bytes self.old.asked.failed.items }
+        ensures same { (other : List ℕ) → file_named self.new.files.items other ≡ file_named self.old.files.items other }
+
+        // A call that isn't listed to fail, on a name that is there, doesn't fail; one that is listed does, and each is counted.
+        ensures succeeds { is_listed self.old.failing.items self.old.calls ≡ false
+            → IsSome (file_named self.old.files.items name.now) → result ≢ Err FileFault.Failed }
+        ensures listed { is_listed self.old.failing.items self.old.calls ≡ true
+            → (result ≡ Err FileFault.Failed) ⊎ (result ≡ Err FileFault.NoMemory) }
+        ensures counted { self.new.calls ≡ (self.old.calls + 1) % 2 ^ 64 }
+        ensures failing { self.new.failing ≡ self.old.failing }
+    {
         let call = self.calls;
         self.calls = self.calls.wrapping_add(1);
+        if self.asked.ask(alloc, name).is_err() {
+            return Err(FileFault::NoMemory);
+        }
         if self.failing.contains(&call) {
-            self.faults = risen(self.faults);
-            return Err(FileFault::Failed);
+            return Err(self.asked.fail(alloc, name));
         }
-        let read = copy_named(alloc, self.files.as_slice(), name, limit);
-        if matches!(read, Err(FileFault::Failed)) {
-            self.faults = risen(self.faults);
+        match copy_named(alloc, self.files.as_slice(), name, limit) {
+            Err(FileFault::Failed) => Err(self.asked.fail(alloc, name)),
+            read => read,
         }
-        read
     }
 }
 
@@ -137,7 +166,21 @@ impl Sink for MemSink {
 
     ghost held = { λ s. Some s.bytes.items };
 
-    fn write(&mut self, piece: &[u8]) -> Result<(), WriteFailed> {
+    fn write(&mut self, piece: &[u8]) -> Result<(), WriteFailed>
+        ensures ok { OnOk result (Some self.new.bytes.items ≡ told_with (Some self.old.bytes.items) piece.now) }
+        ensures err { OnErr result (TakesFront (Some self.old.bytes.items) (Some self.new.bytes.items) piece.now) }
+        ensures failed { OnErr result (HasRisen self.old.faults self.new.faults) }
+        ensures steady { OnOk result (self.new.faults ≡ self.old.faults) }
+        ensures later { self.old.faults ≤ self.new.faults }
+
+        // A call that isn't listed to fail takes a piece that finds room; one that is listed fails, and each is counted.
+        ensures succeeds { is_listed self.old.failing.items self.old.calls ≡ false
+            → vec_len self.old.bytes + length piece.now ≤ vec_capacity self.old.bytes → IsOk result }
+        ensures listed { is_listed self.old.failing.items self.old.calls ≡ true → IsErr result }
+        ensures counted { self.new.calls ≡ (self.old.calls + 1) % 2 ^ 64 }
+        ensures failing { self.new.failing ≡ self.old.failing }
+        ensures room { vec_capacity self.old.bytes ≤ vec_capacity self.new.bytes }
+    {
         let call = self.calls;
         self.calls = self.calls.wrapping_add(1);
         if self.failing.contains(&call) || piece.len() > self.bytes.capacity() - self.bytes.len() {

@@ -1,5 +1,8 @@
-ghost use Rattle.std.specs.Prelude.{◌≤◌, IfOk, None, vec_len};
+ghost use Rattle.std.specs.Prelude.{◌≡◌, ◌≤◌, ◌<◌, ◌∷◌, ◌++◌, ℕ, Err, IfOk, IfSome, OnOk, OnErr, None, length, map, string_bytes, take, vec_len};
+ghost use Rattle.std.specs.Io.KnownBytes.{Appends};
+ghost use Rattle.outside.specs.Told.{AppendsFront, HasRisen, TakesFront, told_with};
 
+use crate::asked::Asked;
 use crate::files::{FileFault, Files};
 use crate::memory::risen;
 use crate::sink::{Sink, WriteFailed};
@@ -11,19 +14,25 @@ use std::{fs, rt};
 #[derive(Drop)]
 pub struct RealFiles<R: rt::Files + Drop> {
     system: R,
-    faults: u64,
+    asked: Asked,
 }
 
 impl<R: rt::Files + Drop> RealFiles<R> {
-    /// The files of this system, of which no call has failed.
-    pub fn of(system: R) -> RealFiles<R> {
-        RealFiles { system, faults: 0 }
+    /// The files of this system, of which none was asked for.
+    pub fn of(alloc: Global, system: R) -> RealFiles<R> {
+        RealFiles {
+            system,
+            asked: Asked::none(alloc),
+        }
     }
 }
 
-/// Reads to the end, or until there is more than the limit.
-fn read_all<F: Read>(alloc: Global, file: &mut F, limit: usize) -> Result<Vec<u8>, FileFault>
+/// Reads to the end, or until there is more than the limit. Where the reader tells what it will give, that is just what
+/// comes of it, and `TooLong` comes exactly where it is more than the limit. A read that fails is `Failed`.
+pub fn read_all<F: Read>(alloc: Global, file: &mut F, limit: usize) -> Result<Vec<u8>, FileFault>
+    ensures whole { IfOk result (λ bytes. IfSome (F.remaining file.old) (λ told. bytes.items ≡ told)) }
     ensures short { IfOk result (λ bytes. vec_len bytes ≤ limit) }
+    ensures too_long { result ≡ Err FileFault.TooLong → IfSome (F.remaining file.old) (λ told. limit < length told) }
 {
     let mut bytes = Vec::new(alloc);
     let mut piece = [0u8; 4096];
@@ -44,22 +53,53 @@ fn read_all<F: Read>(alloc: Global, file: &mut F, limit: usize) -> Result<Vec<u8
     Err(FileFault::Failed)
 }
 
+/// The bytes of the file of a name.
+fn read_named<R: rt::Files>(
+    alloc: Global,
+    system: &R,
+    name: &str,
+    limit: usize,
+) -> Result<Vec<u8>, FileFault>
+    ensures short { IfOk result (λ bytes. vec_len bytes ≤ limit) }
+{
+    let Ok(mut file) = fs::open(system, name) else {
+        return Err(FileFault::Failed);
+    };
+    read_all(alloc, &mut file, limit)
+}
+
 impl<R: rt::Files + Drop> Files for RealFiles<R> {
-    ghost faults = { λ f. f.faults };
+    ghost asked = { λ f. map string_bytes f.asked.names.items };
+
+    ghost failed = { λ f. map string_bytes f.asked.failed.items };
 
     ghost contents = { λ f name. None };
 
     fn read(&mut self, alloc: Global, name: &str, limit: usize) -> Result<Vec<u8>, FileFault> {
-        let Ok(mut file) = fs::open(&self.system, name) else {
-            self.faults = risen(self.faults);
-            return Err(FileFault::Failed);
-        };
-        let read = read_all(alloc, &mut file, limit);
-        if matches!(read, Err(FileFault::Failed)) {
-            self.faults = risen(self.faults);
+        if self.asked.ask(alloc, name).is_err() {
+            return Err(FileFault::NoMemory);
         }
-        read
+        match read_named(alloc, &self.system, name, limit) {
+            Err(FileFault::Failed) => Err(self.asked.fail(alloc, name)),
+            read => read,
+        }
     }
+}
+
+/// Writes the whole piece, or fails, where a front of it was written. Where the writer tells what it holds, it holds
+/// just that behind what it held.
+pub fn write_all<W: Write>(writer: &mut W, piece: &[u8]) -> Result<(), WriteFailed>
+    ensures whole { OnOk result (Appends (W.contents writer.old) (W.contents writer.new) piece.now) }
+    ensures front { OnErr result (AppendsFront (W.contents writer.old) (W.contents writer.new) piece.now) }
+{
+    let mut rest = piece;
+    while !rest.is_empty() {
+        match writer.write(rest) {
+            Ok(count) if count > 0 => rest = &rest[count..],
+            _ => return Err(WriteFailed),
+        }
+    }
+    Ok(())
 }
 
 /// A writer of the system, as standard output. It tells nothing of what it took.
@@ -81,17 +121,21 @@ impl<W: Write + Drop> Sink for RealSink<W> {
 
     ghost held = { λ s. None };
 
-    fn write(&mut self, piece: &[u8]) -> Result<(), WriteFailed> {
-        let mut rest = piece;
-        while !rest.is_empty() {
-            match self.writer.write(rest) {
-                Ok(count) if count > 0 => rest = &rest[count..],
-                _ => {
-                    self.faults = risen(self.faults);
-                    return Err(WriteFailed);
-                }
-            }
+    fn write(&mut self, piece: &[u8]) -> Result<(), WriteFailed>
+        ensures ok { OnOk result (None ≡ told_with None piece.now) }
+        ensures err { OnErr result (TakesFront None None piece.now) }
+        ensures failed { OnErr result (HasRisen self.old.faults self.new.faults) }
+        ensures steady { OnOk result (self.new.faults ≡ self.old.faults) }
+        ensures later { self.old.faults ≤ self.new.faults }
+
+        // Where the writer below tells what it holds, it gained the whole piece, or a front of it.
+        ensures whole { OnOk result (Appends (W.contents self.old.writer) (W.contents self.new.writer) piece.now) }
+        ensures front { OnErr result (AppendsFront (W.contents self.old.writer) (W.contents self.new.writer) piece.now) }
+    {
+        let written = write_all(&mut self.writer, piece);
+        if written.is_err() {
+            self.faults = risen(self.faults);
         }
-        Ok(())
+        written
     }
 }

@@ -1,6 +1,8 @@
-use crate::{FileFault, Files, MemFile, MemFiles, MemSink, RealFiles, RealSink, Sink, WriteFailed};
+use crate::{
+    FileFault, Files, MemFile, MemFiles, MemSink, RealFiles, RealSink, Sink, WriteFailed, read_all,
+};
 use std::alloc::{AllocError, Global};
-use std::io::Write;
+use std::io::{Read, Write};
 use std::test::Fail;
 use std::{fs, io};
 
@@ -17,16 +19,17 @@ fn files_in_memory_are_read_whole_or_refused(rt: HostRuntime) -> Result<(), Fail
     held.push(file(rt.alloc(), "licence", b"FEATURE")?)?;
     held.push(file(rt.alloc(), "options", b"")?)?;
     let failing = [5].to_vec(rt.alloc())?;
-    let mut files = MemFiles::make(held, failing);
+    let mut files = MemFiles::make(rt.alloc(), held, failing);
     assert!(rt; files.read(rt.alloc(), "licence", 7)?.as_slice() == b"FEATURE".as_slice());
     assert_eq!(rt; files.read(rt.alloc(), "options", 0)?.len(), 0);
     assert!(rt; files.read(rt.alloc(), "licence", 6) == Err(FileFault::TooLong));
-    assert_eq!(rt; files.faults, 0);
+    assert_eq!(rt; files.asked.failed.len(), 0);
     assert!(rt; files.read(rt.alloc(), "script", 7) == Err(FileFault::Failed));
-    assert_eq!(rt; files.faults, 1);
+    assert_eq!(rt; files.asked.failed.len(), 1);
     assert!(rt; files.read(rt.alloc(), "licence", 7).is_ok());
     assert!(rt; files.read(rt.alloc(), "licence", 7) == Err(FileFault::Failed));
-    assert_eq!(rt; files.faults, 2);
+    assert_eq!(rt; files.asked.names.len(), 6);
+    assert_eq!(rt; files.asked.failed.len(), 2);
     Ok(())
 }
 
@@ -46,17 +49,43 @@ fn a_sink_in_memory_takes_whole_pieces(rt: HostRuntime) -> Result<(), Fail> {
 #[test]
 fn real_files_hold_what_a_real_sink_took(rt: HostRuntime) -> Result<(), Fail> {
     let name = "outside_real_files.txt";
+    let mut text = Vec::new(rt.alloc());
+    for number in 0..10_000u32 {
+        text.push((number % 251) as u8)?;
+    }
     let mut sink = RealSink::of(fs::create(&rt, name)?);
-    assert_eq!(rt; sink.write(b"0 0 ann h1 d1 p1 "), Ok(()));
-    assert_eq!(rt; sink.write(b"CHECKOUT edit 1.0\n"), Ok(()));
+    assert_eq!(rt; sink.write(text.as_slice()), Ok(()));
     drop(sink);
-    let mut files = RealFiles::of(rt.clone()?);
-    let held = files.read(rt.alloc(), name, 35)?;
-    assert!(rt; held.as_slice() == b"0 0 ann h1 d1 p1 CHECKOUT edit 1.0\n".as_slice());
-    assert!(rt; files.read(rt.alloc(), name, 34) == Err(FileFault::TooLong));
+    let mut files = RealFiles::of(rt.alloc(), &rt);
+    let held = files.read(rt.alloc(), name, 10_000)?;
+    assert!(rt; held.as_slice() == text.as_slice());
+    assert!(rt; files.read(rt.alloc(), name, 9_999) == Err(FileFault::TooLong));
     fs::remove_file(&rt, name)?;
-    assert!(rt; files.read(rt.alloc(), name, 35) == Err(FileFault::Failed));
+    assert!(rt; files.read(rt.alloc(), name, 10_000) == Err(FileFault::Failed));
     Ok(())
+}
+
+/// A reader that gives five bytes, and then fails.
+#[derive(Drop)]
+struct Breaking {
+    has_given: bool,
+}
+
+impl Read for Breaking {
+    fn read(&mut self, room: &mut [u8]) -> io::Result<usize> {
+        if self.has_given || room.len() < 5 {
+            return Err(io::Error::from(io::ErrorKind::Other));
+        }
+        self.has_given = true;
+        room[..5].copy_from_slice(b"MAX 1");
+        Ok(5)
+    }
+}
+
+#[test]
+fn a_read_that_fails_in_mid_file_is_a_fault(rt: HostRuntime) {
+    let mut reader = Breaking { has_given: false };
+    assert!(rt; read_all(rt.alloc(), &mut reader, 100) == Err(FileFault::Failed));
 }
 
 /// A writer that takes two bytes at a time, until it has as many as it can take.

@@ -12,7 +12,7 @@ use Rattle.options_machine.proofs.Runs.{after-snoc, run_more}
 use Rattle.script_text.specs.declared.line.ScriptLine.{ScriptLine}
 use Rattle.scripts.specs.Desks.{says_place}
 use Rattle.scripts.specs.Script.{entry_of, request_of}
-use Rattle.scripts.proofs.Moments.{moved_later, moved_within, step_again, step_now}
+use Rattle.options_machine.proofs.Moments.{moved_later, moved_within, step_again, step_now}
 
 -- the state after the entry that a line makes
 pub after_entry_of : (sets : List Rules) (h : List Entry) (line : ScriptLine) → (after sets h).now < 2 ^ 40 → after sets (h ++ entry_of sets h line ∷ []) ≡ (step sets (after sets h) (request_of line) line.moment).1

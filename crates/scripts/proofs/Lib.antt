@@ -1,4 +1,3 @@
-pub mod Moments
 pub mod Entries
 pub mod Places
 pub mod Runs

@@ -101,9 +101,13 @@ lines_pools : (sets : ℕ) (ls : List Ledger) (lines : List ScriptLine) → map 
 lines_pools sets ls [] = refl
 lines_pools sets ls (line ∷ lines) = lines_pools sets (after_line sets ls line) lines ∙ same_pools sets ls line (set_asked line.kind)
 
+-- a script makes one history at each pool
+pub scripts_pooled : (pools : List Pool) (files : List OptionsFile) (lines : List ScriptLine) → map (λ (l : Ledger). l.pool) (ledgers_of pools files lines) ≡ pools
+scripts_pooled pools files lines = lines_pools (length files) (opened_all pools files) lines ∙ opened_pools files pools
+
 -- the state that a script leaves at each pool is lawful
 pub scripts_lawful : (pools : List Pool) (files : List OptionsFile) (lines : List ScriptLine) → 0 < length files → length files ≤ 4 → AreOrderly files → list_all has_licences pools ≡ true
     → AreLawful (ledgers_of pools files lines)
 scripts_lawful pools files lines some few orderly has =
-    let same : map (λ (l : Ledger). l.pool) (ledgers_of pools files lines) ≡ pools = lines_pools (length files) (opened_all pools files) lines ∙ opened_pools files pools in
+    let same = scripts_pooled pools files lines in
     all_lawful files (ledgers_of pools files lines) some few orderly (ap (list_all has_licences) same ∙ has) (script_goes pools files lines)

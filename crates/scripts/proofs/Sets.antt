@@ -1,5 +1,5 @@
-use Rattle.std.proofs.Common.{◌≡◌, ℕ, zero, suc, ◌+◌, ◌<◌, ◌≤◌, ◌^◌, List, [], ◌∷◌, ◌++◌, length, map, refl, sym, ap, ◌∙◌, arith, get_or, take}
-use Rattle.std.proofs.lemmas.List.{length-map, map-append, take_more}
+use Rattle.std.proofs.Common.{◌≡◌, ℕ, zero, suc, ◌+◌, ◌<◌, ◌≤◌, ◌^◌, List, [], ◌∷◌, ◌++◌, length, map, refl, sym, ap, ◌∙◌, arith, get_or, take, subst}
+use Rattle.std.proofs.lemmas.List.{length-map, map-append, take_all, take_more}
 use Rattle.feature_lines.specs.declared.pool.Pool.{Pool}
 use Rattle.lic_types.specs.declared.client.RuleLine.{RuleLine}
 use Rattle.options_machine.proofs.Cuts.{rules_sound}
@@ -7,10 +7,10 @@ use Rattle.options_machine.specs.Law.{AreSets}
 use Rattle.options_machine.specs.Rules.{IsSound, Rules}
 use Rattle.options_machine.specs.State.{in_force, opening, set_at}
 use Rattle.options_text.proofs.Rising.{once}
-use Rattle.options_text.specs.Options.{IsOrderly, OptionsFile}
+use Rattle.options_text.specs.Options.{OptionsFile}
 use Rattle.policy.proofs.Readings.{options_read}
 use Rattle.policy.specs.Pools.{rules_of}
-use Rattle.scripts.specs.Laws.{AreOrderly}
+use Rattle.scripts.specs.Laws.{AreOrderly, IsOrderly}
 
 -- one sound rule set more
 pub sound_more : (sets : List Rules) (r : Rules) → ((n : ℕ) → n < length sets → IsSound (set_at sets n)) → IsSound r → (n : ℕ) → n < length (sets ++ r ∷ []) → IsSound (set_at (sets ++ r ∷ []) n)
@@ -66,3 +66,16 @@ sets_of_files files pool some few orderly small =
       sound = each_sound files pool orderly small;
       same = same_count files pool;
     }
+
+-- one more options file is orderly
+pub orderly_more : (files : List OptionsFile) (i : ℕ) (file : OptionsFile) → i < length files → file ≡ get_or files i file → IsOrderly file → AreOrderly (take i files) → AreOrderly (take (i + 1) files)
+orderly_more files i file within is this before =
+    rw (take_more files i file within) (orderly_behind (take i files) (get_or files i file) before (subst IsOrderly is this))
+  where
+    orderly_behind : (files : List OptionsFile) (file : OptionsFile) → AreOrderly files → IsOrderly file → AreOrderly (files ++ file ∷ [])
+    orderly_behind [] file before this = (this, tt)
+    orderly_behind (first ∷ files) file before this = (before.0, orderly_behind files file before.1 this)
+
+-- all of them are
+pub all_orderly : (files : List OptionsFile) (i : ℕ) → length files ≤ i → AreOrderly (take i files) → AreOrderly files
+all_orderly files i whole orderly = subst AreOrderly (take_all i files whole) orderly

@@ -12,7 +12,7 @@ use Rattle.options_machine.specs.Run.{AsksForSet, IsBelow}
 use Rattle.options_machine.specs.State.{State}
 use Rattle.options_machine.specs.Step.{set_asked}
 use Rattle.options_machine.specs.declared.reply.Reply.{Reply}
-use Rattle.policy.specs.Kept.{Book}
+use Rattle.policy.specs.Books.{Book}
 use Rattle.script_text.specs.declared.line.ScriptLine.{ScriptLine}
 use Rattle.scripts.specs.Desks.{IsThere, answer_at, entered_at, is_ready, places_with}
 use Rattle.scripts.specs.Script.{changed_at, request_of}

@@ -1,10 +1,14 @@
-use Rattle.std.specs.Prelude.{◌≡◌, ◌≤◌, ◌<◌, true, List, [], ◌∷◌, length}
+use Rattle.std.specs.Prelude.{◌≡◌, ◌≤◌, ◌<◌, true, List, [], ◌∷◌, length, map}
 use Rattle.std.specs.List.{list_all}
 use Rattle.feature_lines.specs.Licence.{has_licences}
 use Rattle.feature_lines.specs.declared.pool.Pool.{Pool}
 use Rattle.options_machine.specs.Law.{IsLawful}
 use Rattle.options_machine.specs.Run.{IsRun, after}
-use Rattle.options_text.specs.Options.{IsOrderly, OptionsFile}
+use Rattle.options_machine.specs.Replies.{DenialsNameTheirLine, NoSeatIsLeft}
+use Rattle.options_text.specs.Entries.{is_within_limits}
+use Rattle.options_text.specs.Options.{OptionsFile}
+use Rattle.lic_types.specs.declared.client.RuleLine.{RuleLine}
+use Rattle.std.specs.List.Sorted.{IsStrictlyIncreasing}
 use Rattle.script_text.specs.Fits.{is_fit}
 use Rattle.script_text.specs.declared.line.ScriptLine.{ScriptLine}
 use Rattle.scripts.specs.Ledgers.{Ledger}
@@ -19,7 +23,12 @@ AreRuns (ledger ∷ ledgers) = IsRun ledger.sets ledger.run × AreRuns ledgers
 abbrev pub ScriptsAreRuns : Type 0
 ScriptsAreRuns = (pools : List Pool) (files : List OptionsFile) (lines : List ScriptLine) → list_all is_fit lines ≡ true → AreRuns (ledgers_of pools files lines)
 
--- options files as their reader gives them
+-- rule lines as the reader of options gives them: each has a line of its own, and its numbers are within their limits
+pub record IsOrderly (file : OptionsFile) : Type 0 where
+  pub lines_rise : IsStrictlyIncreasing (map (λ (l : RuleLine). l.line) file.lines)
+  pub within : list_all (λ (l : RuleLine). is_within_limits l.rule) file.lines ≡ true
+
+-- the same of each of several options files
 abbrev pub AreOrderly : List OptionsFile → Type 0
 AreOrderly [] = Unit {0}
 AreOrderly (file ∷ files) = IsOrderly file × AreOrderly files
@@ -32,3 +41,15 @@ AreLawful (ledger ∷ ledgers) = IsLawful ledger.sets ledger.pool.count (after l
 -- the state that a script leaves at each pool is lawful, where the pools are those of a licence and there are one to four options files
 abbrev pub ScriptsAreLawful : Type 0
 ScriptsAreLawful = (pools : List Pool) (files : List OptionsFile) (lines : List ScriptLine) → 0 < length files → length files ≤ 4 → AreOrderly files → list_all has_licences pools ≡ true → AreLawful (ledgers_of pools files lines)
+
+-- What a script makes at these pools by these options files: histories, one for each pool in their order, each a run of the pool's rule sets, in a lawful state. In a run a denial names the line that denies, and no seat is said only where the rules find none.
+pub record Histories (pools : List Pool) (files : List OptionsFile) (lines : List ScriptLine) : Type 0 where
+  pub pooled : map (λ (l : Ledger). l.pool) (ledgers_of pools files lines) ≡ pools
+  pub runs : AreRuns (ledgers_of pools files lines)
+  pub lawful : AreLawful (ledgers_of pools files lines)
+  pub denials : DenialsNameTheirLine
+  pub no_seat : NoSeatIsLeft
+
+-- each script makes one history at each pool
+abbrev pub ScriptsArePooled : Type 0
+ScriptsArePooled = (pools : List Pool) (files : List OptionsFile) (lines : List ScriptLine) → map (λ (l : Ledger). l.pool) (ledgers_of pools files lines) ≡ pools

@@ -16,7 +16,7 @@ use Rattle.options_machine.specs.declared.reply.Entry.{Entry}
 use Rattle.options_machine.specs.declared.reply.Reply.{Reply}
 use Rattle.options_machine.specs.declared.reply.Request.{Request}
 use Rattle.options_text.specs.Options.{OptionsFile}
-use Rattle.policy.specs.Words.{reply_text}
+use Rattle.reply_words.specs.Words.{reply_text}
 use Rattle.script_text.specs.declared.line.ScriptLine.{ScriptLine}
 use Rattle.scripts.specs.Ledgers.{Ledger, opened_all}
 

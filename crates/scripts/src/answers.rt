@@ -3,34 +3,19 @@ ghost use Rattle.lic_types.specs.Days.{day_text};
 ghost use Rattle.outside.specs.Told.{HasRisen, TakesFront, told_with};
 ghost use Rattle.scripts.specs.Script.{reply_line, set_line};
 
-use itoa::Buffer;
 use lic_types::Day;
 use options_machine::Reply;
 use outside::{Sink, WriteFailed};
-use policy::reply_words;
-
-/// Writes a text behind the first bytes, and gives the place behind it.
-fn put(room: &mut [u8], at: usize, text: &[u8]) -> usize
-    requires { at + length text.now ≤ length room.old }
-    ensures place { result ≡ at + length text.now }
-    ensures written { take result room.new ≡ take at room.old ++ text.now }
-{
-    let end = at + text.len();
-    room[at..end].copy_from_slice(text);
-    end
-}
+use reply_words::{put, put_number, put_reply};
 
 /// Writes the output line of a reply into a room, and gives how many bytes it takes.
 fn put_reply_line(reply: &Reply, place: u64, room: &mut [u8; 256]) -> usize
     ensures place { result ≤ 256 }
     ensures written { take result room.new ≡ reply_line reply.now place }
 {
-    let mut words = [0u8; 160];
-    let len = reply_words(reply, &mut words);
-    let mut buffer = Buffer::new();
-    let at = put(room, 0, &words[..len]);
+    let at = put_reply(room, 0, reply);
     let at = put(room, at, b" #");
-    let at = put(room, at, buffer.format(place).as_bytes());
+    let at = put_number(room, at, place);
     put(room, at, b"\n")
 }
 
@@ -53,13 +38,12 @@ fn put_set_line(sets: usize, set: u32, room: &mut [u8; 32]) -> usize
     ensures place { result ≤ 32 }
     ensures written { take result room.new ≡ set_line sets set }
 {
-    let mut buffer = Buffer::new();
     let at = if (set as usize) < sets {
         put(room, 0, b"REREAD ")
     } else {
         put(room, 0, b"NORULES ")
     };
-    let at = put(room, at, buffer.format(set).as_bytes());
+    let at = put_number(room, at, u64::from(set));
     put(room, at, b"\n")
 }
 

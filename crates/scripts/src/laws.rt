@@ -1,9 +1,14 @@
-ghost use Rattle.scripts.specs.Laws.{ScriptsAreLawful, ScriptsAreRuns};
+ghost use Rattle.scripts.specs.Laws.{ScriptsAreLawful, ScriptsArePooled, ScriptsAreRuns};
 
 /// The entries that a script makes at each pool are a run of the pool's rule sets, in the order of its lines: each has
 /// the reply of the options machine at the state that those before it leave.
 pub fn scripts_are_runs()
     ensures { ScriptsAreRuns }
+{}
+
+/// A script makes one history at each pool, in the order of the pools.
+pub fn scripts_are_pooled()
+    ensures { ScriptsArePooled }
 {}
 
 /// The state that a script leaves at each pool of a licence is lawful, and so it is after each of its lines: seats in use

@@ -4,13 +4,14 @@
 mod answers;
 mod desk;
 mod fault;
+mod histories;
 mod laws;
 mod making;
 mod playing;
 mod routing;
 
 pub use fault::PlayFault;
-pub use laws::{scripts_are_lawful, scripts_are_runs};
+pub use laws::{scripts_are_lawful, scripts_are_pooled, scripts_are_runs};
 pub use playing::play;
 
 #[cfg(test)]

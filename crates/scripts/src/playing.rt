@@ -5,11 +5,13 @@ ghost use Rattle.options_machine.specs.Step.{set_asked};
 ghost use Rattle.outside.specs.Told.{HasRisen, TakesFront, told_with};
 ghost use Rattle.script_text.specs.Fits.{is_fit};
 ghost use Rattle.scripts.specs.Desks.{desk_of, desks_after, desks_reread, desks_sent, entered_at, is_ready, line_at, line_sent, sent_by};
+ghost use Rattle.scripts.specs.Laws.{Histories};
 ghost use Rattle.scripts.specs.Script.{output_of, set_line};
 
 use crate::answers::{write_expired_line, write_reply_line, write_set_line};
 use crate::desk::Desk;
 use crate::fault::PlayFault;
+use crate::histories::tell_histories;
 use crate::making::make_desks;
 use crate::routing::find;
 use feature_lines::{Found, Licence};
@@ -180,7 +182,10 @@ pub fn play<O: Sink>(
     ensures memory { result ≡ Err PlayFault.NoMemory → O.held out.new ≡ O.held out.old }
     ensures steady { result ≢ Err PlayFault.WriteFailed → O.faults out.new ≡ O.faults out.old }
     ensures later { O.faults out.old ≤ O.faults out.new }
+    // The histories that it makes are lawful runs.
+    ensures histories { Histories licence.now.pools options.now lines.now }
 {
+    tell_histories(licence, options, lines);
     let mut desks = make_desks(alloc, licence.pools(), options)?;
     play_lines(licence, options, desks.as_mut_slice(), lines, out)?;
     Ok(())

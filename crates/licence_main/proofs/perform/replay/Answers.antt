@@ -1,25 +1,27 @@
-use Rattle.std.proofs.Common.{refl, ◌∙◌, arith, string_bytes}
+use Rattle.std.proofs.Common.{length, refl, ◌∙◌, arith, string_bytes}
 use Rattle.std.proofs.lemmas.Result.{err_from_is_err_and}
+use Rattle.licence_main.proofs.Asking.{join, stop, wrote_text}
 use Rattle.licence_main.proofs.Checks.{wider, wider_told}
 use Rattle.licence_main.proofs.Hearing.{refusal_wider}
-use Rattle.licence_main.proofs.Replays.{replay_first, replay_fourth, replay_last, replay_second, replay_third, rises}
+use Rattle.licence_main.proofs.Replays.{replay_first, replay_fourth, replay_last, replay_second, replay_third}
+use Rattle.licence_main.proofs.Runs.{rises}
 use Rattle.licence_main.proofs.Sets.{same_told}
 use Rattle.licence_main.proofs.perform.replay.Goals as goal
 
-pub returns-in_err-licence : goal.returns-in_err-licence
-returns-in_err-licence g c =
+pub returns-in_err-licence-clause-says : goal.returns-in_err-licence-clause-says
+returns-in_err-licence-clause-says g c =
     let p = err_from_is_err_and c.from_residual.result c.from_residual.ensures.1 in
     let l = c.in_err-licence.ensures.says in
     rw (p.1, p.2) (replay_first _ _ _ _ _ l.reading l.is l.says)
 
-pub returns-in_err-options : goal.returns-in_err-options
-returns-in_err-options g c =
+pub returns-in_err-options-clause-says : goal.returns-in_err-options-clause-says
+returns-in_err-options-clause-says g c =
     let p = err_from_is_err_and c.from_residual-in_err-options.result c.from_residual-in_err-options.ensures.1 in
     let l = c.in_ok-licence.ensures.says in
     let o = c.in_err-options.ensures.says in
-    let f0 = g.F.Files.faults c.args.files.now in
-    let f1 = g.F.Files.faults c.read_licence_file.new.files in
-    let f2 = g.F.Files.faults c.read_options_file.new.files in
+    let f0 = length (g.F.Files.failed c.args.files.now) in
+    let f1 = length (g.F.Files.failed c.read_licence_file.new.files) in
+    let f2 = length (g.F.Files.failed c.read_options_file.new.files) in
     let later1 = c.in_ok-licence.ensures.later in
     let later2 = c.in_err-options.ensures.later in
     rw (p.1, p.2) (replay_second _ _ _ _ _ l.reading o.reading c.in_ok-licence.licence
@@ -27,16 +29,16 @@ returns-in_err-options g c =
     (wider _ _ _ _ o.reading (c.in_ok-licence.ensures.same c.args.options.now) (rises f0 f1 f2 f2 later1 (omega arith)) o.is)
     l.says (refusal_wider _ _ _ _ (rises f0 f1 f2 f2 later1 (omega arith)) o.says))
 
-pub returns-in_err-script : goal.returns-in_err-script
-returns-in_err-script g c =
+pub returns-in_err-script-clause-says : goal.returns-in_err-script-clause-says
+returns-in_err-script-clause-says g c =
     let p = err_from_is_err_and c.from_residual-in_err-script.result c.from_residual-in_err-script.ensures.1 in
     let l = c.in_ok-licence.ensures.says in
     let o = c.in_ok-options.ensures.says in
     let s = c.in_err-script.ensures.says in
-    let f0 = g.F.Files.faults c.args.files.now in
-    let f1 = g.F.Files.faults c.read_licence_file.new.files in
-    let f2 = g.F.Files.faults c.read_options_file.new.files in
-    let f3 = g.F.Files.faults c.read_script_file.new.files in
+    let f0 = length (g.F.Files.failed c.args.files.now) in
+    let f1 = length (g.F.Files.failed c.read_licence_file.new.files) in
+    let f2 = length (g.F.Files.failed c.read_options_file.new.files) in
+    let f3 = length (g.F.Files.failed c.read_script_file.new.files) in
     let later1 = c.in_ok-licence.ensures.later in
     let later2 = c.in_ok-options.ensures.later in
     let later3 = c.in_err-script.ensures.later in
@@ -46,18 +48,18 @@ returns-in_err-script g c =
     (wider _ _ _ _ s.reading (c.in_ok-options.ensures.same c.args.script.now ∙ c.in_ok-licence.ensures.same c.args.script.now) (rises f0 f2 f3 f3 (omega (arith, later1, later2)) (omega arith)) s.is)
     l.says o.says (refusal_wider _ _ _ _ (rises f0 f2 f3 f3 (omega (arith, later1, later2)) (omega arith)) s.says))
 
-pub returns-in_err-sets : goal.returns-in_err-sets
-returns-in_err-sets g c =
+pub returns-in_err-sets-clause-says : goal.returns-in_err-sets-clause-says
+returns-in_err-sets-clause-says g c =
     let p = err_from_is_err_and c.from_residual-in_err-sets.result c.from_residual-in_err-sets.ensures.1 in
     let l = c.in_ok-licence.ensures.says in
     let o = c.in_ok-options.ensures.says in
     let s = c.in_ok-script.ensures.says in
     let m = c.in_err-sets.ensures.says in
-    let f0 = g.F.Files.faults c.args.files.now in
-    let f1 = g.F.Files.faults c.read_licence_file.new.files in
-    let f2 = g.F.Files.faults c.read_options_file.new.files in
-    let f3 = g.F.Files.faults c.read_script_file.new.files in
-    let f4 = g.F.Files.faults c.read_sets.new.files in
+    let f0 = length (g.F.Files.failed c.args.files.now) in
+    let f1 = length (g.F.Files.failed c.read_licence_file.new.files) in
+    let f2 = length (g.F.Files.failed c.read_options_file.new.files) in
+    let f3 = length (g.F.Files.failed c.read_script_file.new.files) in
+    let f4 = length (g.F.Files.failed c.read_sets.new.files) in
     let later1 = c.in_ok-licence.ensures.later in
     let later2 = c.in_ok-options.ensures.later in
     let later3 = c.in_ok-script.ensures.later in
@@ -76,17 +78,17 @@ returns-in_err-sets g c =
     (wider_told _ _ _ _ m.readings told wide m.are)
     l.says o.says s.says (refusal_wider _ _ _ _ wide m.says))
 
-pub returns : goal.returns
-returns g c =
+pub returns-clause-says : goal.returns-clause-says
+returns-clause-says g c =
     let l = c.in_ok-licence.ensures.says in
     let o = c.in_ok-options.ensures.says in
     let s = c.in_ok-script.ensures.says in
     let m = c.in_ok-sets.ensures.says in
-    let f0 = g.F.Files.faults c.args.files.now in
-    let f1 = g.F.Files.faults c.read_licence_file.new.files in
-    let f2 = g.F.Files.faults c.read_options_file.new.files in
-    let f3 = g.F.Files.faults c.read_script_file.new.files in
-    let f4 = g.F.Files.faults c.read_sets.new.files in
+    let f0 = length (g.F.Files.failed c.args.files.now) in
+    let f1 = length (g.F.Files.failed c.read_licence_file.new.files) in
+    let f2 = length (g.F.Files.failed c.read_options_file.new.files) in
+    let f3 = length (g.F.Files.failed c.read_script_file.new.files) in
+    let f4 = length (g.F.Files.failed c.read_sets.new.files) in
     let later1 = c.in_ok-licence.ensures.later in
     let later2 = c.in_ok-options.ensures.later in
     let later3 = c.in_ok-script.ensures.later in
@@ -103,4 +105,34 @@ returns g c =
     (wider _ _ _ _ o.reading (same1 c.args.options.now) (rises f0 f1 f2 f4 later1 (omega (arith, later3, later4))) o.is)
     (wider _ _ _ _ s.reading (same2 c.args.script.now ∙ same1 c.args.script.now) (rises f0 f2 f3 f4 (omega (arith, later1, later2)) later4) s.is)
     (wider_told _ _ _ _ m.readings told wide m.are)
-    l.says o.says s.says m.says (rw (c.as_slice.ensures.value, c.as_slice-2.ensures.value) at c.write_replay.ensures)
+    l.says o.says s.says m.says (rw (c.as_slice.ensures.value, c.as_slice-2.ensures.value) at c.write_replay.ensures.histories)
+    (rw (c.as_slice.ensures.value, c.as_slice-2.ensures.value) at c.write_replay.ensures.says)
+
+pub returns-in_err-licence-clause-asked : goal.returns-in_err-licence-clause-asked
+returns-in_err-licence-clause-asked g c =
+    let p = err_from_is_err_and c.from_residual.result c.from_residual.ensures.1 in
+    rw (p.1, p.2) (stop _ _ 1 _ _ _ _ _ _ _ c.in_err-licence.ensures.says.says c.in_err-licence.ensures.asked)
+
+pub returns-in_err-options-clause-asked : goal.returns-in_err-options-clause-asked
+returns-in_err-options-clause-asked g c =
+    let p = err_from_is_err_and c.from_residual-in_err-options.result c.from_residual-in_err-options.ensures.1 in
+    rw (p.1, p.2) (stop _ _ 1 _ _ _ _ _ _ _ c.in_err-options.ensures.says.says (join 1 _ _ _ _ _ _ _ _ _ c.in_ok-licence.ensures.asked c.in_err-options.ensures.asked))
+
+pub returns-in_err-script-clause-asked : goal.returns-in_err-script-clause-asked
+returns-in_err-script-clause-asked g c =
+    let p = err_from_is_err_and c.from_residual-in_err-script.result c.from_residual-in_err-script.ensures.1 in
+    rw (p.1, p.2) (stop _ _ 1 _ _ _ _ _ _ _ c.in_err-script.ensures.says.says
+    (join 1 _ _ _ _ _ _ _ _ _ (join 1 _ _ _ _ _ _ _ _ _ c.in_ok-licence.ensures.asked c.in_ok-options.ensures.asked) c.in_err-script.ensures.asked))
+
+pub returns-in_err-sets-clause-asked : goal.returns-in_err-sets-clause-asked
+returns-in_err-sets-clause-asked g c =
+    let p = err_from_is_err_and c.from_residual-in_err-sets.result c.from_residual-in_err-sets.ensures.1 in
+    rw (p.1, p.2) (join 1 _ _ _ _ _ _ _ _ _
+    (join 1 _ _ _ _ _ _ _ _ _ (join 1 _ _ _ _ _ _ _ _ _ c.in_ok-licence.ensures.asked c.in_ok-options.ensures.asked) c.in_ok-script.ensures.asked)
+    c.in_err-sets.ensures.asked)
+
+pub returns-clause-asked : goal.returns-clause-asked
+returns-clause-asked g c =
+    wrote_text _ _ _ _ 1 _ _ _ _ _ _ c.write_replay.ensures.says (join 1 _ _ _ _ _ _ _ _ _
+    (join 1 _ _ _ _ _ _ _ _ _ (join 1 _ _ _ _ _ _ _ _ _ c.in_ok-licence.ensures.asked c.in_ok-options.ensures.asked) c.in_ok-script.ensures.asked)
+    c.in_ok-sets.ensures.asked)

@@ -22,4 +22,4 @@ pub returns-clause-says : goal.returns-clause-says
 unfolding licence_heard
 returns-clause-says g c =
     judged (λ licence. licence) (λ v. v.items) 1 (λ bytes. accepted Licence (licence_of bytes)) _ _ c.in_ok-file.file _ c.in_ok-file.ensures.says
-    (refusal_wider ⊥ _ _ _ (λ h. absurd h) (c.licence_status.ensures (licence_of c.in_ok-file.file.items) (rw (← c.as_slice.ensures.value) c.in-Err.ensures)))
+    (refusal_wider ⊥ _ _ _ (λ h. absurd h) (c.licence_status.ensures.says (licence_of c.in_ok-file.file.items) (rw (← c.as_slice.ensures.value) c.in-Err.ensures)))

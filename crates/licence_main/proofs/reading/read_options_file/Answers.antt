@@ -21,4 +21,4 @@ pub returns-clause-says : goal.returns-clause-says
 unfolding options_heard
 returns-clause-says g c =
     judged (λ options. options) (λ v. v.items) (position_of_set c.args.set) (λ bytes. accepted (options_status c.args.set) (options_of bytes)) _ _ c.in_ok-file.file _ (rw c.position_of_set.ensures at c.in_ok-file.ensures.says)
-    (refusal_wider ⊥ _ _ _ (λ h. absurd h) (c.options_status.ensures (options_of c.in_ok-file.file.items) (options_fault (options_of c.in_ok-file.file.items) c.in-Err.fault (rw c.as_slice.ensures.value at c.in-Err.ensures))))
+    (refusal_wider ⊥ _ _ _ (λ h. absurd h) (c.options_status.ensures.says (options_of c.in_ok-file.file.items) (options_fault (options_of c.in_ok-file.file.items) c.in-Err.fault (rw c.as_slice.ensures.value at c.in-Err.ensures))))

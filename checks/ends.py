@@ -1,0 +1,163 @@
+"""Runs the built program on each case of checks/ends.cases, and compares its exit status and what it writes.
+
+A case begins with a line `case: NAME`, and then has lines `FIELD: VALUE`:
+
+    words     the words behind the program's name
+    NAME      what the file NAME holds; in place of text `absent`, `folder`, `fifo TEXT`, `bytes N`, which is N times `#`, or
+              `each N TEXT`, which is TEXT N times, with the number from 0 in place of {}
+    out, err  where standard output and standard error go: `closed`, `full` (/dev/full) or `broken` (a pipe that nobody reads)
+    status, stdout, stderr
+              what is wanted. A stdout of `any` isn't compared.
+
+Values have Python's escapes, as \\n, \\t, \\x00 and \\xff. What a case leaves out is as in the case `usual`.
+"""
+
+import ast
+import os
+import re
+import subprocess
+import sys
+import tempfile
+import threading
+
+CASES = "checks/ends.cases"
+WANTED = ("words", "out", "err", "status", "stdout", "stderr")
+SECONDS = 10
+
+
+def text(value):
+    """The bytes of a value with escapes."""
+    return ast.literal_eval("b'" + value.replace("'", "\\'") + "'")
+
+
+def cases():
+    """Each case as its name and its fields, with those of the case `usual`, the first, where it has none."""
+    usual, name, fields = None, None, {}
+    with open(CASES) as lines:
+        for line in [*lines, "case:\n"]:
+            field, colon, value = line.rstrip("\n").partition(":")
+            value = value.removeprefix(" ")
+            if not colon or line.startswith("#"):
+                continue
+            if field == "case":
+                if name:
+                    usual = usual or fields
+                    yield name, {**usual, **fields}
+                name, fields = value, {}
+            else:
+                fields[field] = value
+
+
+def lay(name, value):
+    """Makes a file."""
+    kind, _, rest = value.partition(" ")
+    if kind == "absent":
+        return
+    if kind == "folder":
+        os.mkdir(name)
+    elif kind == "fifo":
+        os.mkfifo(name)
+        threading.Thread(target=lambda: open(name, "wb").write(text(rest)), daemon=True).start()
+    else:
+        if kind == "bytes":
+            held = b"#" * int(rest)
+        elif kind == "each":
+            count, _, line = rest.partition(" ")
+            held = b"".join(text(line.replace("{}", str(n))) for n in range(int(count)))
+        else:
+            held = text(value)
+        with open(name, "wb") as file:
+            file.write(held)
+
+
+def broken_pipe():
+    reads, writes = os.pipe()
+    os.close(reads)
+    return writes
+
+
+def run(program, fields):
+    """The status of a run, and what it wrote to standard output and standard error where they were kept."""
+    given = {"out": fields.get("out"), "err": fields.get("err")}
+    kept = {"out": subprocess.PIPE, "err": subprocess.PIPE}
+    opened = []
+    for stream, where in given.items():
+        if where in ("full", "broken"):
+            kept[stream] = os.open("/dev/full", os.O_WRONLY) if where == "full" else broken_pipe()
+            opened.append(kept[stream])
+
+    def close():
+        for number, stream in ((1, "out"), (2, "err")):
+            if given[stream] == "closed":
+                os.close(number)
+
+    words = [text(word) for word in fields["words"].split(" ") if word]
+    ran = subprocess.run(
+        [program, *words],
+        stdin=subprocess.DEVNULL,
+        stdout=kept["out"],
+        stderr=kept["err"],
+        preexec_fn=close,
+        timeout=SECONDS,
+    )
+    for number in opened:
+        os.close(number)
+    return ran.returncode, ran.stdout or b"", ran.stderr or b""
+
+
+def faults(program, fields):
+    """What differs from what is wanted."""
+    with tempfile.TemporaryDirectory() as folder:
+        os.chdir(folder)
+        for name, value in fields.items():
+            if name not in WANTED:
+                lay(name, value)
+        status, out, err = run(program, fields)
+        os.chdir("/")
+    wanted = int(fields["status"]), text(fields["stdout"]), text(fields["stderr"])
+    if status != wanted[0]:
+        yield f"status {status} and not {wanted[0]}"
+    if out != wanted[1] and fields["stdout"] != "any":
+        yield f"standard output {out[:200]} and not {wanted[1][:200]}"
+    if err != wanted[2]:
+        yield f"standard error {err[:200]} and not {wanted[2][:200]}"
+
+
+def cut(program, example):
+    """Runs `check` and `replay` on an example whose files are cut at each byte: the end is done, or a refusal of that file."""
+    refusals = {"licence": (3, rb"licence: line \d+: [a-z]+[ a-z0-9]*\n"), "options": (4, rb"options: line \d+: [a-z ]+\n"), "script": (5, rb"script: line \d+: [a-z ]+\n")}
+    for name, (refusal, line) in refusals.items():
+        with open(f"{example}/{name}", "rb") as file:
+            whole = file.read()
+        for end in range(len(whole) + 1):
+            files = {other: f"{example}/{other}" for other in refusals}
+            with tempfile.NamedTemporaryFile() as short:
+                short.write(whole[:end])
+                short.flush()
+                files[name] = short.name
+                ran = subprocess.run([program, "replay", *files.values()], capture_output=True, timeout=SECONDS)
+            is_done = ran.returncode == 0 and not ran.stderr
+            is_refused = ran.returncode == refusal and not ran.stdout and re.fullmatch(line, ran.stderr)
+            if not is_done and not is_refused:
+                yield f"{name} of {example} cut at byte {end}: status {ran.returncode}, {ran.stderr}"
+
+
+def main():
+    program = os.path.abspath(sys.argv[1] if len(sys.argv) > 1 else "crates/licence_main/out/licence_main")
+    if not os.access(program, os.X_OK):
+        sys.exit(f"ends: {program} isn't built: rt ci builds it")
+    example = os.path.abspath("examples/first")
+    wrong, count = 0, 0
+    for name, fields in list(cases()):
+        count += 1
+        for fault in faults(program, fields):
+            print(f"ends: {name}: {fault}")
+            wrong += 1
+    for fault in cut(program, example):
+        print(f"ends: {fault}")
+        wrong += 1
+    print(f"ends: {count} cases, {wrong} differences")
+    return 1 if wrong or not count else 0
+
+
+sys.exit(main())

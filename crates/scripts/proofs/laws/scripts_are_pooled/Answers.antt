@@ -1,0 +1,5 @@
+use Rattle.scripts.proofs.Runs.{scripts_pooled}
+use Rattle.scripts.proofs.laws.scripts_are_pooled.Goals as goal
+
+pub returns : goal.returns
+returns c = scripts_pooled
