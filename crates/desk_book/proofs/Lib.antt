@@ -1,0 +1,6 @@
+mod Steps
+mod Logs
+mod Notes
+pub mod Askers
+pub mod Closings
+mod Pairs

@@ -1,0 +1,3 @@
+pub mod Standing
+pub mod Askers
+pub mod Ends

@@ -1,0 +1,98 @@
+//! The value behind a desk's lock, and its step.
+ghost use Rattle.std.specs.Prelude.{◌≡◌, ◌<◌, ◌+◌, ◌%◌, ◌^◌, true, if◌then◌else◌};
+ghost use Rattle.options_machine.specs.Own.{brings_seat};
+ghost use Rattle.options_machine.specs.Run.{after};
+
+use crate::logging::log_entry;
+use audit_log::{LogPush, QueueId};
+use options_machine::{Entry, Reply, Request};
+use policy::{DeskRules, PlainBook};
+use stat_board::{Board, BoardNote};
+use std::collections::LinkedList;
+use std::sync::Wait;
+use turn_lock::{Kept, Stepped};
+
+/// What no step of a desk's book changes. Contracts speak of it, and no value of this type is made.
+pub struct DeskLaw {
+    /// The rule sets.
+    pub sets: LinkedList<DeskRules>,
+    /// For how many parties the book is.
+    pub parties: u32,
+    /// The queue of its log.
+    pub queue: QueueId,
+    /// What its board shows before the first entry.
+    pub board: BoardNote,
+}
+
+/// What a step answers.
+#[derive(Drop)]
+pub struct NotedReply {
+    /// The reply.
+    pub reply: Reply,
+    /// What the board shows after the step. It stands for all entries up to and with this one, or, once the board has ended,
+    /// for those that it shows for good.
+    pub note: BoardNote,
+}
+
+/// A book with its log and its board. It can't be dropped, since the board can't: [`DeskBook::end`] ends it.
+pub struct DeskBook {
+    pub(crate) book: PlainBook,
+    pub(crate) log: LogPush,
+    // Whether more entries were made than the log keeps.
+    pub(crate) cut: bool,
+    // How many replies brought a seat, modulo 2^64.
+    pub(crate) grants: u64,
+    pub(crate) board: Board,
+    ghost small: { book.state.now < 2 ^ 40 },
+    ghost sets: { board.front.sets ≡ book.sets },
+    ghost shown: { board.live ≡ true → book.state ≡ after book.sets board.front.list },
+}
+
+// One more where the reply brings a seat, modulo 2^64.
+fn counted(grants: u64, reply: &Reply) -> u64
+    ensures { result ≡ (grants + (if brings_seat reply.now then 1 else 0)) % 2 ^ 64 }
+{
+    match reply {
+        Reply::Granted(_) | Reply::Retaken(_) => grants.wrapping_add(1),
+        _ => grants,
+    }
+}
+
+impl Kept for DeskBook {
+    type Request = Request;
+
+    type Answer = NotedReply;
+
+    type Law = DeskLaw;
+
+    ghost use Rattle.desk_book.specs.Standing.{law_of, Fits, Runs, used_at, Stands};
+
+    ghost law = { law_of };
+
+    ghost fits = { Fits };
+
+    ghost party = { λ q. q.party };
+
+    ghost run = { Runs };
+
+    ghost used = { used_at };
+
+    ghost stands = { Stands };
+
+    fn step<R: Wait>(&mut self, rt: &R, request: &Request, moment: u64) -> Stepped<NotedReply> {
+        let (reply, used) = self.book.step(request, moment);
+        let entry = Entry {
+            request: *request,
+            moment: used,
+            reply,
+        };
+        self.grants = counted(self.grants, &reply);
+        self.cut = log_entry(rt, &mut self.log, &entry, self.cut);
+        self.board.publish(rt, &entry, self.book.glance(0));
+        let answer = NotedReply {
+            reply,
+            note: self.board.note(),
+        };
+        Stepped { answer, used }
+    }
+}

@@ -1,0 +1,7 @@
+mod Lasts
+mod Entered
+mod Seated
+mod Asked
+mod Pairs
+mod Splits
+mod Ends

@@ -1,0 +1,74 @@
+-- A seat that was brought and entered, and steps towards one.
+use Rattle.std.proofs.Common.{◌≡◌, ℕ, ◌+◌, ◌<◌, Bool, true, false, cond, List, [], ◌∷◌, ◌++◌, length, ltb, refl, ap, sym, ◌∙◌, subst, length-append, None}
+use Rattle.std.proofs.lemmas.Bool.{lt-ltb}
+use Rattle.std.proofs.lemmas.List.Folds.{list_all-append}
+use Rattle.kex_core.specs.declared.place.Place.TheVariants.{Holding}
+use Rattle.kex_core.specs.Shapes.{plan}
+use Rattle.kex_words.specs.Passes.{Held, Pass, TableNet}
+use Rattle.seat_names.specs.declared.turns.Turn.{Turn}
+use Rattle.seat_names.specs.declared.turns.Turn.TheVariants.{Again, Through}
+use Rattle.seat_names.specs.Turns.{IsAgain, IsThrough, pass_in_turn}
+use Rattle.counter.specs.declared.counter.Asked.{Asked}
+use Rattle.counter.specs.Account.{brings_seat}
+use Rattle.feature_desk.specs.declared.passes.Chair.{Chair}
+use Rattle.feature_desk.specs.declared.passes.Chair.TheVariants as chair
+use Rattle.feature_desk.specs.declared.passes.Seating.{Seating}
+use Rattle.feature_desk.specs.declared.passes.Seating.TheVariants as seating
+use Rattle.feature_desk.specs.Sitters.{NotedView, Sitter}
+use Rattle.desk_book.specs.Askers.{Asker}
+use Rattle.feature_desk.specs.Sittings.{Agree, AreLow, Waits, pass_in}
+use Rattle.feature_desk.specs.Seatings.{Goes, GoesOn, IsUnderWay, MatchedAs, Matches, Starts}
+use Rattle.feature_desk.proofs.Lasts.{last_of}
+
+low_more : (width : ℕ) (got : List ℕ) (s : ℕ) → AreLow width got → s < width → AreLow width (got ++ s ∷ [])
+low_more width got s low new = list_all-append (λ n. ltb n width) got (s ∷ []) ∙ rw (low, lt-ltb s width new) refl
+
+-- whoever has entered a seat that was brought agrees with its entries
+pub agrees_brought : (t : Asker) (c : Chair) (queued : Bool) (a : Asked) (h : Held) (d : TableNet) → Waits t c queued a → brings_seat a.reply ≡ true
+    → (pass_in c).table ≡ d → h.pass.table ≡ (pass_in c).table → h.pass.number ≡ (pass_in c).number → h.pass.place ≡ Holding h.card.number
+    → h.pass.got ≡ (pass_in c).got ++ h.card.number ∷ [] → h.card.number < d.net.width → Agree t (chair.Hold h) queued
+agrees_brought t c queued a h d w brings at table number place got low =
+    let wide : h.pass.table.net.width ≡ d.net.width = ap (λ (z : TableNet). z.net.width) (table ∙ at) in
+    let olds : AreLow d.net.width (pass_in c).got = subst (λ (z : TableNet). AreLow z.net.width (pass_in c).got) at w.belong.low in
+    record {
+      belong = record {
+        number = number ∙ w.belong.number;
+        low = subst (λ (n : ℕ). AreLow n h.pass.got) (sym wide) (subst (AreLow d.net.width) (sym got) (low_more d.net.width (pass_in c).got h.card.number olds low));
+      };
+      sits = record { place = place; last = last_of None h.pass.got (pass_in c).got h.card.number got };
+      rests = refl;
+      held = sym (w.brought brings) ∙ w.held;
+      queued_is = w.queued_is;
+      count =
+          let n : length h.pass.got ≡ length (pass_in c).got + 1 = ap length got ∙ length-append (pass_in c).got (h.card.number ∷ []) in
+          let m : length (pass_in c).got + 1 ≡ _ = sym (ap (λ (b : Bool). length (pass_in c).got + cond b 1 0) brings) ∙ w.count in
+          n ∙ m;
+    }
+
+-- a party that is not among the stages is through
+again_or_through : (t : Turn) → (IsAgain t → IsThrough t → ⊥) × ((IsThrough t → ⊥) → IsAgain t)
+again_or_through (Again e) = (λ a th. th, λ no. tt)
+again_or_through (Through h) = (λ a th. a, λ no. no tt)
+
+-- a step towards a seat that was brought goes on where it left the party among the stages
+pub goes_on : (b entering : Bool) (p : Pass) (t : Turn) (s : Seating) → b ≡ true → (pass_in_turn t).table ≡ p.table → (pass_in_turn t).number ≡ p.number
+    → Starts entering p t → (IsUnderWay s → IsAgain t) → (IsAgain t → IsUnderWay s) → GoesOn b entering p s
+goes_on false entering p t s is table number starts f g = absurd (let never : false ≡ true = is in cc)
+goes_on true true p t s is table number starts f g = (t, starts, (f, g))
+goes_on true false p t s is table number (out, rests, goes, same, at) f g =
+    let sits : out.table ≡ p.table = sym (ap (λ (z : Pass). z.table) same) ∙ table in
+    let who : out.number ≡ p.number = sym (ap (λ (z : Pass). z.number) same) ∙ number in
+    let start : (plan out.table.net).start out.number ≡ (plan p.table.net).start p.number = (λ i. (plan (sits i).net).start (who i)) in
+    let stages : (plan out.table.net).stages ≡ (plan p.table.net).stages = ap (λ (z : TableNet). (plan z.net).stages) sits in
+    let a = again_or_through t in
+    (λ under ends. a.0 (f under) (at.1 (start ∙ (ends ∙ sym stages))), λ not_there. g (a.1 (λ th. not_there (sym start ∙ (at.0 th ∙ stages)))))
+
+pub matched_brought : (n : NotedView) (p : Sitter) (s : ℕ) → brings_seat n.asked.reply ≡ true → p.ticket ≡ n.sitter.ticket → p.seat.place ≡ Holding s → p.seat.got ≡ n.sitter.seat.got ++ s ∷ [] → Goes n.sitter.seat p.seat → MatchedAs n p
+matched_brought n p s brings ticket place got goes = record { ticket = ticket; seat = subst (λ (b : Bool). Matches b n.asked.held n.sitter.seat p.seat) (sym brings) (s, place, got); goes = goes }
+
+-- a step that left the party among the stages
+pub under_way : (n k m : NotedView) (t : Turn) → n ≡ k → brings_seat n.asked.reply ≡ true → (pass_in_turn t).table ≡ n.sitter.seat.table → (pass_in_turn t).number ≡ n.sitter.seat.number
+    → Starts n.entering n.sitter.seat t → IsAgain t → GoesOn (brings_seat k.asked.reply) k.entering k.sitter.seat (seating.Again m)
+under_way n k m t same brings table number starts again =
+    subst (λ (z : NotedView). GoesOn (brings_seat z.asked.reply) z.entering z.sitter.seat (seating.Again m)) same
+    (goes_on (brings_seat n.asked.reply) n.entering n.sitter.seat t (seating.Again m) brings table number starts (λ u. again) (λ a. tt))

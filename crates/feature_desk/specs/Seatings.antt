@@ -1,0 +1,67 @@
+-- What the calls of a desk do.
+use Rattle.std.specs.Prelude.{◌≡◌, ◌≢◌, ◌↔◌, ℕ, Bool, true, false, List, [], ◌∷◌, ◌++◌}
+use Rattle.kex_core.specs.declared.place.Place.TheVariants.{Holding}
+use Rattle.kex_core.specs.Shapes.{plan}
+use Rattle.kex_words.specs.Passes.{Pass, IsOut}
+use Rattle.seat_names.specs.declared.turns.Turn.{Turn}
+use Rattle.seat_names.specs.Turns.{IsAgain, IsThrough, Turned, pass_in_turn}
+use Rattle.seat_names.specs.Ways.{Leads}
+use Rattle.counter.specs.Account.{brings_seat}
+use Rattle.feature_desk.specs.declared.passes.Seating.{Seating}
+use Rattle.feature_desk.specs.declared.passes.Seating.TheVariants.{Again, Matched}
+use Rattle.feature_desk.specs.Sitters.{DeskView, IsOf, NotedView, Sitter}
+
+-- a seat that an entry brought was entered; one that is held on stays; any other is left
+abbrev pub Matches : Bool → Bool → Pass → Pass → Type 0
+Matches true held old new = (s : ℕ) × (new.place ≡ Holding s) × (new.got ≡ old.got ++ s ∷ [])
+Matches false true old new = ((s : ℕ) × (new.place ≡ Holding s)) × (new ≡ old)
+Matches false false old new = IsOut new × (new.got ≡ old.got)
+
+-- the accesses that are due, one after another, lead from one pass to the other
+abbrev pub Goes : Pass → Pass → Type 0
+Goes old new = (way : List Pass) × Leads old way new
+
+-- the seat agrees with what was asked
+pub record MatchedAs (n : NotedView) (p : Sitter) : Type 0 where
+  pub ticket : p.ticket ≡ n.sitter.ticket
+  pub seat : Matches (brings_seat n.asked.reply) n.asked.held n.sitter.seat p.seat
+  pub goes : Goes n.sitter.seat p.seat
+
+-- the party is on its way to a seat, and has taken none
+pub record WaitsOn (n m : NotedView) : Type 0 where
+  pub ticket : m.sitter.ticket ≡ n.sitter.ticket
+  pub asked : m.asked ≡ n.asked
+  pub entering : m.entering ≡ true
+  pub got : m.sitter.seat.got ≡ n.sitter.seat.got
+  pub goes : Goes n.sitter.seat m.sitter.seat
+
+-- what a step towards a seat leads to
+abbrev pub Steps : NotedView → Seating → Type 0
+Steps n (Again m) = WaitsOn n m
+Steps n (Matched p asked) = MatchedAs n p × (asked ≡ n.asked)
+
+-- the party has to take another step
+abbrev pub IsUnderWay : Seating → Type 0
+IsUnderWay (Again m) = Unit {0}
+IsUnderWay (Matched p asked) = ⊥
+
+-- where no seat has to be entered, none has to be taken; the first step goes past a start at Exit alone; a later one is a turn at the seats, and goes on where that did
+abbrev pub GoesOn : Bool → Bool → Pass → Seating → Type 0
+GoesOn false entering p s = IsUnderWay s → ⊥
+GoesOn true false p s = IsUnderWay s ↔ ((plan p.table.net).start p.number ≢ (plan p.table.net).stages)
+GoesOn true true p s = (t : Turn) × Turned p t × (IsUnderWay s ↔ IsAgain t)
+
+-- a first step leaves what is held and begins to enter, which makes no access; a later one is a turn
+abbrev pub Starts : Bool → Pass → Turn → Type 0
+Starts false p t = (out : Pass) × IsOut out × Goes p out × (pass_in_turn t ≡ out) × (IsThrough t ↔ ((plan out.table.net).start out.number ≡ (plan out.table.net).stages))
+Starts true p t = Turned p t
+
+-- the seat is as it was
+abbrev pub Keeps : NotedView → Seating → Type 0
+Keeps n (Again m) = m.sitter.seat ≡ n.sitter.seat
+Keeps n (Matched p asked) = p.seat ≡ n.sitter.seat
+
+-- the party is of this desk
+abbrev pub IsAt : Seating → DeskView → Type 0
+IsAt (Again m) d = IsOf m.sitter d
+IsAt (Matched p asked) d = IsOf p d

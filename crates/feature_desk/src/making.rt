@@ -1,0 +1,92 @@
+//! How a desk is made.
+ghost use Rattle.std.specs.Prelude.{◌≡◌, ◌≤◌, [], ◌∷◌, min, All, IfOk, EachIndex, vec_len, vec_capacity, slice_get, Some};
+ghost use Rattle.options_machine.specs.Law.{AreSets};
+ghost use Rattle.options_machine.specs.Rules.{IsSound};
+ghost use Rattle.options_machine.specs.State.{in_force, opening};
+ghost use Rattle.feature_desk.specs.Closings.{IsKeeperOf};
+ghost use Rattle.feature_desk.specs.Sitters.{IsOf, newcomer};
+
+use crate::closing::DeskKeeper;
+use crate::desk::Desk;
+use crate::passes::DeskPass;
+use desk_book::{BookPass, DeskBook, lock_book};
+use kex_core::Net;
+use kex_words::Out;
+use no_memory::NoMemory;
+use policy::DeskRules;
+use seat_names::Seats;
+use std::alloc::Global;
+use std::sync::Wait;
+use turn_lock::Turns;
+
+impl Desk {
+    /// A desk with one rule set, as [`make_many`](Desk::make_many) makes it.
+    pub fn make<R: Wait>(
+        rt: &R,
+        alloc: Global,
+        rules: DeskRules,
+        net: Net,
+    ) -> Result<(Desk, Vec<DeskPass>, DeskKeeper), NoMemory>
+        requires sound { IsSound rules }
+        requires width { net.width ≡ min rules.count net.parties }
+        ensures net { IfOk result (λ made. made.0.seats.net ≡ net) }
+        ensures law { IfOk result (λ made. (made.0.lock.id.parties ≡ net.parties) × (made.0.lock.law.parties ≡ net.parties) × (made.0.lock.law.sets ≡ rules ∷ [])) }
+        ensures passes { IfOk result (λ made. (vec_len made.1 ≡ net.parties) × EachIndex made.1.items (λ i. slice_get made.1.items i ≡ Some (newcomer made.0 i))) }
+        ensures own { IfOk result (λ made. All (λ p. IsOf p made.0) made.1.items) }
+        ensures keeper { IfOk result (λ made. IsKeeperOf made.2 made.0 × (made.2.book.taken ≡ [])) }
+    {
+        let sets = vec![in alloc; rules]?;
+        Desk::make_many(rt, alloc, sets, net)
+    }
+
+    /// A desk in the opening state, with one to four rule sets of one count, over the seats of a net as wide as the count or the number of its parties; the passes of all parties, in order; and the keeper of its log.
+    ///
+    /// It takes all memory that the desk ever needs, but what its board takes at the first entries. `NoMemory` comes where there is not so much. It waits for nobody, since the board has no reader yet.
+    pub fn make_many<R: Wait>(
+        rt: &R,
+        alloc: Global,
+        sets: Vec<DeskRules>,
+        net: Net,
+    ) -> Result<(Desk, Vec<DeskPass>, DeskKeeper), NoMemory>
+        requires sets { AreSets sets.items (in_force sets.items opening).count }
+        requires width { net.width ≡ min (in_force sets.items opening).count net.parties }
+        ensures net { IfOk result (λ made. made.0.seats.net ≡ net) }
+        ensures law { IfOk result (λ made. (made.0.lock.id.parties ≡ net.parties) × (made.0.lock.law.parties ≡ net.parties) × (made.0.lock.law.sets ≡ sets.items)) }
+        ensures passes { IfOk result (λ made. (vec_len made.1 ≡ net.parties) × EachIndex made.1.items (λ i. slice_get made.1.items i ≡ Some (newcomer made.0 i))) }
+        ensures own { IfOk result (λ made. All (λ p. IsOf p made.0) made.1.items) }
+        ensures keeper { IfOk result (λ made. IsKeeperOf made.2 made.0 × (made.2.book.taken ≡ [])) }
+    {
+        net.laws();
+        let parties = net.parties();
+        let mut passes = Vec::with_capacity(alloc, parties as usize)?;
+        let (seats, mut outs) = Seats::make(alloc, net)?;
+        let (turns, mut tickets, book) = lock_book(rt, alloc, sets, parties)?;
+        pair(&turns, &seats, &mut tickets, &mut outs, &mut passes);
+        Ok((Desk { turns, seats }, passes, DeskKeeper { book, tickets }))
+    }
+}
+
+// Pairs the passes of each party, in order.
+fn pair(
+    turns: &Turns<DeskBook>,
+    seats: &Seats,
+    tickets: &mut Vec<BookPass>,
+    outs: &mut Vec<Out>,
+    passes: &mut Vec<DeskPass>,
+)
+    requires long { vec_len outs.old ≡ vec_len tickets.old }
+    requires tickets { EachIndex tickets.old.items (λ i. slice_get tickets.old.items i ≡ Some (newcomer (record { lock = turns.now; seats = seats.now }) i).ticket) }
+    requires outs { EachIndex outs.old.items (λ i. slice_get outs.old.items i ≡ Some (newcomer (record { lock = turns.now; seats = seats.now }) i).seat) }
+    requires room { (passes.old.items ≡ []) × (vec_len tickets.old ≤ vec_capacity passes.old) }
+    ensures empty { (tickets.new.items ≡ []) × (vec_capacity tickets.new ≡ vec_capacity tickets.old) }
+    ensures passes { (vec_len passes.new ≡ vec_len tickets.old) × EachIndex passes.new.items (λ i. slice_get passes.new.items i ≡ Some (newcomer (record { lock = turns.now; seats = seats.now }) i)) }
+    ensures own { All (λ p. IsOf p (record { lock = turns.now; seats = seats.now })) passes.new.items }
+{
+    while let Some(ticket) = tickets.pop() {
+        let Some(out) = outs.pop() else {
+            unreachable!()
+        };
+        passes.push_reserved(DeskPass::of(ticket, out));
+    }
+    passes.reverse();
+}
