@@ -1,0 +1,258 @@
+//! What a line asks.
+ghost use Rattle.std.specs.Prelude.{◌≡◌, [], ◌∷◌, MatchResult};
+ghost use Rattle.std.specs.List.{list_all};
+ghost use Rattle.lic_text.specs.Left.{words_left};
+ghost use Rattle.lic_text.specs.Number.{number_of};
+ghost use Rattle.lic_types.specs.Name.{name_of};
+ghost use Rattle.lic_types.specs.Version.{key_of};
+ghost use Rattle.line_protocol.specs.Requests.{asked_of, client_of, feature_of, is_request_byte, last_of, named, request_of, seat_of, set_of, set_within, verb_of, version_of, worded};
+
+use crate::wire::{Wire, WireFault};
+use lic_text::{Words, number, words_in};
+use lic_types::{Client, Name, Version};
+
+/// The numbers of rule sets are below this.
+const SET_LIMIT: u64 = 1 << 32;
+
+/// The first word of a request.
+#[derive(Clone, Copy)]
+pub(crate) enum Verb {
+    /// HELLO.
+    Hello,
+    /// CHECKOUT.
+    Checkout,
+    /// QUEUE.
+    Queue,
+    /// CHECKIN.
+    Checkin,
+    /// BEAT.
+    Beat,
+    /// LOOK.
+    Look,
+    /// STATUS.
+    Status,
+    /// GLANCE.
+    Glance,
+    /// REREAD.
+    Reread,
+    /// QUIT.
+    Quit,
+    /// SHUTDOWN.
+    Shutdown,
+}
+
+/// A feature and the least version that is good enough.
+#[derive(Clone, Copy)]
+pub(crate) struct Seat {
+    feature: Name,
+    version: Version,
+}
+
+/// The next word of a request, which is to have one.
+fn next_word<'a>(words: &mut Words<'a>) -> Result<&'a [u8], WireFault>
+    ensures { MatchResult result (λ word. words_left words.old ≡ word.now ∷ words_left words.new) (λ fault. (words_left words.old ≡ []) × (fault ≡ WireFault.WordCount)) }
+{
+    words.next().ok_or(WireFault::WordCount)
+}
+
+/// No word is to be left.
+fn end_words(words: Words<'_>) -> Result<(), WireFault>
+    ensures { result ≡ last_of (words_left words.entry) }
+{
+    let mut words = words;
+    if words.next().is_some() {
+        return Err(WireFault::WordCount);
+    }
+    Ok(())
+}
+
+/// The name that a word spells.
+fn read_name(word: &[u8]) -> Result<Name, WireFault>
+    ensures { result ≡ named (name_of word.now) }
+{
+    Name::read(word).map_err(|_| WireFault::BadName)
+}
+
+/// The version that a word spells.
+fn read_version(word: &[u8]) -> Result<Version, WireFault>
+    ensures { result ≡ version_of (key_of word.now) }
+{
+    Version::read(word).ok_or(WireFault::BadVersion)
+}
+
+/// The client of these four names.
+fn read_client(
+    user: &[u8],
+    host: &[u8],
+    display: &[u8],
+    project: &[u8],
+) -> Result<Client, WireFault>
+    ensures { result ≡ client_of user.now host.now display.now project.now }
+{
+    let user = read_name(user)?;
+    let host = read_name(host)?;
+    let display = read_name(display)?;
+    let project = read_name(project)?;
+    Ok(Client {
+        user,
+        host,
+        display,
+        project,
+    })
+}
+
+/// The request that a word stands for.
+fn read_verb(verb: &[u8]) -> Result<Verb, WireFault>
+    ensures { result ≡ verb_of verb.now }
+{
+    if verb == b"HELLO".as_slice() {
+        Ok(Verb::Hello)
+    } else if verb == b"CHECKOUT".as_slice() {
+        Ok(Verb::Checkout)
+    } else if verb == b"QUEUE".as_slice() {
+        Ok(Verb::Queue)
+    } else if verb == b"CHECKIN".as_slice() {
+        Ok(Verb::Checkin)
+    } else if verb == b"BEAT".as_slice() {
+        Ok(Verb::Beat)
+    } else if verb == b"LOOK".as_slice() {
+        Ok(Verb::Look)
+    } else if verb == b"STATUS".as_slice() {
+        Ok(Verb::Status)
+    } else if verb == b"GLANCE".as_slice() {
+        Ok(Verb::Glance)
+    } else if verb == b"REREAD".as_slice() {
+        Ok(Verb::Reread)
+    } else if verb == b"QUIT".as_slice() {
+        Ok(Verb::Quit)
+    } else if verb == b"SHUTDOWN".as_slice() {
+        Ok(Verb::Shutdown)
+    } else {
+        Err(WireFault::UnknownWord)
+    }
+}
+
+/// The client that the last words name.
+fn read_hello(words: Words<'_>) -> Result<Wire, WireFault>
+    ensures { result ≡ asked_of Verb.Hello (words_left words.entry) }
+{
+    let mut words = words;
+    let user = next_word(&mut words)?;
+    let host = next_word(&mut words)?;
+    let display = next_word(&mut words)?;
+    let project = next_word(&mut words)?;
+    end_words(words)?;
+    Ok(Wire::Hello(read_client(user, host, display, project)?))
+}
+
+/// The feature and the version that are the last words.
+fn read_seat(words: Words<'_>) -> Result<Seat, WireFault>
+    ensures { result ≡ seat_of (words_left words.entry) }
+{
+    let mut words = words;
+    let feature = next_word(&mut words)?;
+    let version = next_word(&mut words)?;
+    end_words(words)?;
+    let feature = read_name(feature)?;
+    let version = read_version(version)?;
+    Ok(Seat { feature, version })
+}
+
+/// The feature that is the last word.
+fn read_feature(words: Words<'_>) -> Result<Name, WireFault>
+    ensures { result ≡ feature_of (words_left words.entry) }
+{
+    let mut words = words;
+    let feature = next_word(&mut words)?;
+    end_words(words)?;
+    read_name(feature)
+}
+
+/// The number of a rule set that a word spells.
+fn read_number(word: &[u8]) -> Result<u32, WireFault>
+    ensures { result ≡ set_within (number_of word.now) }
+{
+    match number(word) {
+        Some(set) if set < SET_LIMIT => Ok(set as u32),
+        _ => Err(WireFault::BadNumber),
+    }
+}
+
+/// The number of a rule set that is the last word.
+fn read_set(words: Words<'_>) -> Result<u32, WireFault>
+    ensures { result ≡ set_of (words_left words.entry) }
+{
+    let mut words = words;
+    let set = next_word(&mut words)?;
+    end_words(words)?;
+    read_number(set)
+}
+
+/// What is asked by a verb and the words behind it.
+fn read_asked(verb: Verb, words: Words<'_>) -> Result<Wire, WireFault>
+    ensures { result ≡ asked_of verb (words_left words.entry) }
+{
+    match verb {
+        Verb::Hello => read_hello(words),
+        Verb::Checkout => {
+            let seat = read_seat(words)?;
+            Ok(Wire::Checkout(seat.feature, seat.version))
+        }
+        Verb::Queue => {
+            let seat = read_seat(words)?;
+            Ok(Wire::Queue(seat.feature, seat.version))
+        }
+        Verb::Checkin => Ok(Wire::Checkin(read_feature(words)?)),
+        Verb::Beat => Ok(Wire::Beat(read_feature(words)?)),
+        Verb::Look => Ok(Wire::Look(read_feature(words)?)),
+        Verb::Status => Ok(Wire::Status(read_feature(words)?)),
+        Verb::Glance => Ok(Wire::Glance(read_feature(words)?)),
+        Verb::Reread => Ok(Wire::Reread(read_set(words)?)),
+        Verb::Quit => {
+            end_words(words)?;
+            Ok(Wire::Quit)
+        }
+        Verb::Shutdown => {
+            end_words(words)?;
+            Ok(Wire::Shutdown)
+        }
+    }
+}
+
+fn is_request_byte(byte: u8) -> bool
+    ensures { result ≡ is_request_byte byte }
+{
+    32 <= byte && byte <= 126
+}
+
+fn is_printable(line: &[u8]) -> bool
+    ensures { result ≡ list_all is_request_byte line.now }
+{
+    line.iter().all(|byte| is_request_byte(*byte))
+}
+
+/// What words ask.
+fn read_words(words: Words<'_>) -> Result<Wire, WireFault>
+    ensures { result ≡ worded (words_left words.entry) }
+{
+    let mut words = words;
+    let Some(verb) = words.next() else {
+        return Err(WireFault::Empty);
+    };
+    let verb = read_verb(verb)?;
+    read_asked(verb, words)
+}
+
+/// What a line, without its LF, asks. The words are its longest runs of bytes other than space.
+///
+/// The first fault of these is told: a byte that isn't from 32 to 126; no word; a first word that is no request; another
+/// number of words than the request has; a name that is none; a version that is none; a number that is none, or not below
+/// 2^32. The grammar and the order of the faults are this project's own.
+pub fn read_request(line: &[u8]) -> Result<Wire, WireFault>
+    ensures { result ≡ request_of line.now }
+{
+    if !is_printable(line) {
+        return Err(WireFault::BadByte);
+    }
+    read_words(words_in(line))
+}

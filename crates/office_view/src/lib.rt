@@ -1,0 +1,88 @@
+//! The pools of a licence with one desk each, as a session sees them.
+#![tactic(auto)]
+
+ghost use Rattle.std.specs.Prelude.{◌≡◌, ◌<◌, IfSome, get_or, length, vec_len};
+ghost use Rattle.feature_lines.specs.Route.{IsThere, route};
+ghost use Rattle.office_view.specs.View.{first_named};
+
+use feature_lines::{Found, Pool, find_pool};
+use lic_types::{Name, Version};
+use std::marker::Model;
+
+/// The pools in the order of the licence file, one desk for each, and the number of rule sets that each desk has.
+#[derive(Drop)]
+pub struct OfficeView<D> {
+    pools: Vec<Pool>,
+    desks: Vec<D>,
+    sets: u32,
+}
+
+impl<D> Model for OfficeView<D> {
+    ghost use Rattle.office_view.specs.View.{IsView, View};
+
+    ghost Value = { View D };
+
+    ghost view = { λ o. record { pools = o.pools.items; desks = o.desks.items; sets = o.sets } };
+
+    ghost invariant = { λ o. IsView o.pools.items o.desks.items };
+}
+
+impl<D> OfficeView<D> {
+    /// These pools and these desks.
+    pub fn of(pools: Vec<Pool>, desks: Vec<D>, sets: u32) -> OfficeView<D>
+        requires { vec_len pools ≡ vec_len desks }
+        ensures { result ≡ record { pools = pools.items; desks = desks.items; sets = sets } }
+    {
+        OfficeView { pools, desks, sets }
+    }
+
+    /// The pools.
+    pub fn pools(&self) -> &[Pool]
+        ensures pools { result.now ≡ self.now.pools }
+        ensures desks { length self.now.desks ≡ length self.now.pools }
+    {
+        self.pools.as_slice()
+    }
+
+    /// The desk of a pool.
+    pub fn desk(&self, i: usize) -> &D
+        requires { i < length self.now.pools }
+        ensures { result.now ≡ get_or self.now.desks i result.now }
+    {
+        &self.desks[i]
+    }
+
+    /// The desks alone, to be closed.
+    pub fn into_desks(self) -> Vec<D>
+        ensures { result.items ≡ self.desks }
+    {
+        self.desks
+    }
+
+    /// The number of rule sets.
+    pub fn sets(&self) -> u32
+        ensures { result ≡ self.now.sets }
+    {
+        self.sets
+    }
+
+    /// The first pool of a name.
+    #[tactic(auto, using(crate::proofs::Found::some_there))]
+    pub fn first(&self, name: &Name) -> Option<usize>
+        ensures first { result ≡ first_named self.now.pools name.now }
+        ensures there { IfSome result (λ i. i < length self.now.pools) }
+    {
+        self.pools.iter().position(|pool| pool.name == *name)
+    }
+
+    /// The pool that serves a checkout at a moment, in seconds since 1970-01-01 UTC.
+    pub fn route(&self, name: &Name, version: Version, moment: u64) -> Found
+        ensures found { result ≡ route self.now.pools name.now version.key moment }
+        ensures there { IsThere (length self.now.pools) result }
+    {
+        find_pool(self.pools.as_slice(), name, version, moment)
+    }
+}
+
+#[cfg(test)]
+mod tests;

@@ -1,0 +1,38 @@
+-- What a session read: lines, and a rest.
+use Rattle.std.specs.Prelude.{◌≡◌, ℕ, ◌≤◌, List, [], flat_map, length}
+use Rattle.std.specs.List.{AllByRecursion}
+use Rattle.line_protocol.specs.Streams.{IsFlat, joined}
+use Rattle.session_outside.specs.Talk.{Event, Heard, Silence, Ended, ReadFault, Wrote, WriteFault}
+use Rattle.session.specs.Acts.{Act, talk_of}
+use Rattle.session.specs.Session.{Session}
+use Rattle.session.specs.Table.{Setup}
+use Rattle.session.specs.declared.end.SessionEnd.{SessionEnd}
+
+-- the bytes that were heard
+abbrev pub heard_in : Event → List ℕ
+heard_in (Heard piece) = piece
+heard_in Silence = []
+heard_in Ended = []
+heard_in ReadFault = []
+heard_in (Wrote piece) = []
+heard_in (WriteFault part) = []
+
+-- all bytes that were heard
+abbrev pub heard_of : List Act → List ℕ
+heard_of acts = flat_map heard_in (talk_of acts)
+
+-- a line of a stream
+pub record IsLine (line : List ℕ) : Type 0 where
+  pub flat : IsFlat line
+  pub short : length line ≤ 1024
+
+-- the bytes that a session heard are lines, which it answered in their order, and a rest
+pub record HasRead (acts : List Act) : Type 0 where
+  pub lines : List (List ℕ)
+  pub rest : List ℕ
+  pub heard : heard_of acts ≡ joined lines rest
+  pub each : AllByRecursion IsLine lines
+
+-- each session heard lines and a rest
+abbrev pub SessionsRead : Type 0
+SessionsRead = (o : Setup) (acts : List Act) (end : SessionEnd) → Session o acts end → HasRead acts
