@@ -41,10 +41,10 @@ def least_seconds(words, is_wanted):
     return best
 
 
-def tell(half, full):
+def tell(half, full, most=MOST):
     """Prints lines a second at half and at full length, and the ratio of the times; gives whether it is too much."""
     for lines, taken in (half, full):
         print(f"{lines} lines: {taken * 1000:.1f} ms, {lines / taken:.0f} lines a second")
     ratio = full[1] / half[1]
     print(f"ratio {ratio:.2f}")
-    return ratio > MOST
+    return ratio > most

@@ -4,3 +4,4 @@ pub mod Lines
 pub mod Openings
 pub mod Pools
 pub mod Sets
+pub mod Usages

@@ -18,7 +18,7 @@ sets_of files pool = map (rules_of pool) files
 
 -- what an audit shows of entries at pools with these rule sets: Yes where they are a run, with their sums; No where they aren't, with the first line that shows it and what holds there
 abbrev pub IsShown : List (List Rules) → List Numbered → Audited → Type 0
-IsShown pools xs (Yes sums) = IsRunLog pools xs × SumsUp xs sums
+IsShown pools xs (Yes sums) = IsRunLog pools xs × SumsUp pools xs sums
 IsShown pools xs (No line place moment said) = IsFirstBad pools xs line place moment said
 
 -- what is shown of a log's entries; the log's fault; or want of memory

@@ -1,4 +1,4 @@
-use Rattle.std.specs.Prelude.{◌≡◌, ℕ, ◌+◌, ◌≤◌, Bool, true, nat_lt, if◌then◌else◌, length, Option, None, Some}
+use Rattle.std.specs.Prelude.{◌≡◌, ℕ, ◌+◌, ◌*◌, ◌<◌, ◌≤◌, ◌^◌, Bool, true, nat_lt, if◌then◌else◌, List, ◌++◌, length, Option, None, Some, IfSome, option_to_list}
 use Rattle.options_machine.specs.Run.{AsksForSet}
 use Rattle.options_machine.specs.State.{State}
 use Rattle.options_machine.specs.Step.{set_asked, step}
@@ -6,6 +6,9 @@ use Rattle.options_machine.specs.declared.reply.Kind.TheVariants.{Look}
 use Rattle.options_machine.specs.declared.reply.Reply.{Reply}
 use Rattle.options_machine.specs.declared.reply.Request.{Request}
 use Rattle.audit_log.specs.declared.reading.Logged.{Logged}
+use Rattle.log_audit.specs.Running.{counted}
+use Rattle.log_audit.specs.declared.day_sum.DaySum.{DaySum}
+use Rattle.log_audit.specs.declared.day_sum.Stretch.{Stretch}
 use Rattle.log_audit.specs.declared.desk.Desk.{Desk}
 use Rattle.log_audit.specs.declared.desk.Expected.{Expected}
 
@@ -43,6 +46,31 @@ IsExpected d x e = Says d (asked (length d.book.sets) x.entry.request) x.entry.m
 abbrev pub moved_by : Desk → Request → ℕ → Desk
 moved_by d request moment = record d { book = record d.book { state = (answer d request moment).1 } }
 
--- the desk after an entry
+-- the desk after an entry, which isn't counted for its day yet
 abbrev pub moved_on : Desk → Logged → Desk
 moved_on d x = record d { book = record d.book { state = (answer d x.entry.request x.entry.moment).1 }; entries = d.entries + 1 }
+
+-- the stretch that an entry ends
+abbrev pub stretch_at : Desk → Logged → Stretch
+stretch_at d x = record { from = d.book.state.now; until = x.entry.moment; held = length d.book.state.holders }
+
+-- the desk after its next entry
+abbrev pub with_next : Desk → Logged → Desk
+with_next d x = record (moved_on d x) { days = counted d.days x.pool (stretch_at d x) (length (answer d x.entry.request x.entry.moment).1.holders) x.entry.reply }
+
+-- the days of the entries so far
+abbrev pub days_told : Desk → List DaySum
+days_told d = d.days.over ++ option_to_list d.days.last
+
+-- the sums of a day are no more than so many entries up to this moment can make them
+pub record IsSmallSum (entries now : ℕ) (sum : DaySum) : Type 0 where
+  pub denied : sum.denied ≤ entries
+  pub noseat : sum.noseat ≤ entries
+  pub grants : sum.grants ≤ entries
+  pub seconds : sum.seconds ≤ 65535 * now
+
+-- the desk's numbers are those of a pool of at most 65,535 licences
+pub record IsSmall (d : Desk) : Type 0 where
+  pub now : d.book.state.now < 2 ^ 40
+  pub held : length d.book.state.holders ≤ 65535
+  pub last : IfSome d.days.last (IsSmallSum d.entries d.book.state.now)

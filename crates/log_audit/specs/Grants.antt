@@ -5,21 +5,17 @@ use Rattle.std.specs.Ordering.{nat_cmp}
 use Rattle.std.specs.declared.cmp.Ordering.{Ordering}
 use Rattle.options_machine.specs.declared.reply.Entry.{Entry}
 use Rattle.log_audit.specs.Summed.{grants}
-use Rattle.log_audit.specs.declared.users.UserName.{UserName}
 
 -- names in the order of their bytes
-abbrev pub name_order : UserName → UserName → Ordering
-name_order a b = slice_cmp nat_cmp a.name b.name
-
-abbrev pub key_of : List ℕ → UserName
-key_of name = record { name = name }
+abbrev pub name_order : List ℕ → List ℕ → Ordering
+name_order = slice_cmp nat_cmp
 
 -- how many grants of a user were counted
-abbrev pub counted_of : List ℕ → List (UserName × ℕ) → ℕ
+abbrev pub counted_of : List ℕ → List (List ℕ × ℕ) → ℕ
 counted_of name [] = 0
-counted_of name (e ∷ es) = if pointwise nat_eq e.0.name name then e.1 else counted_of name es
+counted_of name (e ∷ es) = if pointwise nat_eq e.0 name then e.1 else counted_of name es
 
 -- one entry more was counted, and no user is listed without a grant
-pub record CountsOne (old new : List (UserName × ℕ)) (e : Entry) : Type 0 where
+pub record CountsOne (old new : List (List ℕ × ℕ)) (e : Entry) : Type 0 where
   pub told : (name : List ℕ) → counted_of name new ≡ counted_of name old + (if grants name e then 1 else 0)
-  pub some : AllByRecursion (λ (listed : UserName × ℕ). 0 < listed.1) new
+  pub some : AllByRecursion (λ (listed : List ℕ × ℕ). 0 < listed.1) new

@@ -4,4 +4,8 @@ pub mod Desks
 pub mod Grants
 pub mod Kept
 pub mod Log
+pub mod Replies
+pub mod Running
 pub mod Summed
+pub mod Times
+pub mod Usage

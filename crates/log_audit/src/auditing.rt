@@ -34,15 +34,16 @@ pub fn audit_entries(
     requires fit { list_all (is_fit (length licence.now.pools)) log.now ≡ true }
     ensures { MatchResult result (IsShown (map (sets_of options.now) licence.now.pools) log.now) (λ fault. fault ≡ Want) }
 {
-    let mut desks = make_desks(alloc, licence.pools(), options)?;
-    match judge_all(desks.as_mut_slice(), log) {
+    let mut made = make_desks(alloc, licence.pools(), options)?;
+    let desks = made.as_mut_slice();
+    match judge_all(desks, log)? {
         Some(no) => Ok(Audited::No {
             line: no.line,
             place: no.expected.place,
             moment: no.expected.moment,
             reply: no.expected.reply,
         }),
-        None => Ok(Audited::Yes(sum_up(alloc, log)?)),
+        None => Ok(Audited::Yes(sum_up(alloc, desks, log)?)),
     }
 }
 

@@ -1,9 +1,12 @@
 //! The book of a pool, and what it says of a log's next entry.
-ghost use Rattle.std.specs.Prelude.{◌≡◌, ◌-◌, ◌+◌, ◌<◌, ◌^◌, MatchOption};
+ghost use Rattle.std.specs.Prelude.{◌≡◌, ◌-◌, ◌+◌, ◌<◌, ◌^◌, IfOk, MatchOption};
 ghost use Rattle.options_machine.specs.Run.{AsksForSet};
-ghost use Rattle.log_audit.specs.Desks.{IsExpected, IsNext, Says, moved_by, moved_on};
+ghost use Rattle.log_audit.specs.Desks.{IsExpected, IsNext, IsSmall, Says, moved_by, moved_on, with_next};
 
+use crate::day_sum::Stretch;
+use crate::days::Days;
 use audit_log::Logged;
+use lic_types::NoMemory;
 use options_machine::{Kind, Reply, Request};
 use policy::{PlainBook, Rows};
 
@@ -14,6 +17,8 @@ pub(crate) struct Desk {
     pub(crate) book: PlainBook,
     /// How many entries of the pool there were so far.
     pub(crate) entries: u64,
+    /// The days of these entries.
+    pub(crate) days: Days,
 }
 
 /// What holds in the place of an entry that a desk doesn't make.
@@ -45,7 +50,7 @@ impl Desk {
 
     /// Makes the next entry of the pool, where a log's entry is that one; else says what holds in its place, and the desk is
     /// good for nothing more. In the place of a request for a rule set that there isn't, a look holds.
-    pub(crate) fn judge(&mut self, entry: &Logged) -> Option<Expected>
+    fn judge(&mut self, entry: &Logged) -> Option<Expected>
         requires party { entry.now.entry.request.party < self.old.book.parties }
         requires few { self.old.entries < 2 ^ 64 - 1 }
         ensures { MatchOption result (IsNext self.old entry.now × (self.new ≡ moved_on self.old entry.now)) (λ expected. (IsNext self.old entry.now → ⊥) × IsExpected self.old entry.now expected) }
@@ -67,5 +72,27 @@ impl Desk {
         }
         self.entries += 1;
         None
+    }
+    /// Makes the next entry of the pool, where a log's entry is that one, and counts it for its day; else says what holds in its
+    /// place, and the desk is good for nothing more.
+    pub(crate) fn take(&mut self, entry: &Logged) -> Result<Option<Expected>, NoMemory>
+        requires party { entry.now.entry.request.party < self.old.book.parties }
+        requires few { self.old.entries < 2 ^ 64 - 1 }
+        requires moment { entry.now.entry.moment < 2 ^ 40 }
+        requires small { IsSmall self.old }
+        ensures { IfOk result (λ found. MatchOption found (IsNext self.old entry.now × (self.new ≡ with_next self.old entry.now)) (λ expected. (IsNext self.old entry.now → ⊥) × IsExpected self.old entry.now expected)) }
+    {
+        let stretch = Stretch {
+            from: self.book.now(),
+            until: entry.entry.moment,
+            held: self.book.held(),
+        };
+        if let Some(expected) = self.judge(entry) {
+            return Ok(Some(expected));
+        }
+        let held = self.book.held();
+        self.days
+            .count(entry.pool, &stretch, held, &entry.entry.reply)?;
+        Ok(None)
     }
 }

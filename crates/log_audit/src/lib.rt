@@ -4,6 +4,8 @@
 
 mod audited;
 mod auditing;
+mod day_sum;
+mod days;
 mod desk;
 mod fault;
 mod judging;
@@ -14,6 +16,7 @@ mod users;
 
 pub use audited::Audited;
 pub use auditing::{audit, audit_entries};
+pub use day_sum::DaySum;
 pub use fault::AuditFault;
 pub use log::{Numbered, read_log};
 pub use sums::Sums;

@@ -1,10 +1,12 @@
 //! The desks at which a log is judged.
 ghost use Rattle.std.specs.Prelude.{◌≡◌, ◌<◌, ◌≤◌, ℕ, IfOk, length, map};
+ghost use Rattle.std.specs.List.{AllByRecursion};
 ghost use Rattle.options_machine.specs.Rules.{IsSound};
 ghost use Rattle.options_machine.specs.State.{set_at};
 ghost use Rattle.policy.specs.Pools.{rules_of};
-ghost use Rattle.log_audit.specs.Kept.{desk_of};
+ghost use Rattle.log_audit.specs.Kept.{HasLawfulSets, desk_of};
 
+use crate::days::Days;
 use crate::desk::Desk;
 use feature_lines::Pool;
 use lic_types::NoMemory;
@@ -30,11 +32,16 @@ fn sets_of(alloc: Global, pool: &Pool, options: &[Options]) -> Result<Vec<DeskRu
 fn make_desk(alloc: Global, pool: &Pool, options: &[Options]) -> Result<Desk, NoMemory>
     requires some { 0 < length options.now }
     requires few { length options.now ≤ 4 }
-    ensures { IfOk result (λ desk. desk ≡ desk_of options.now pool.now) }
+    ensures desk { IfOk result (λ desk. desk ≡ desk_of options.now pool.now) }
+    ensures lawful { IfOk result HasLawfulSets }
 {
     let sets = sets_of(alloc, pool, options)?;
     let book = PlainBook::make_many(alloc, sets, PARTIES)?;
-    Ok(Desk { book, entries: 0 })
+    Ok(Desk {
+        book,
+        entries: 0,
+        days: Days::new(alloc),
+    })
 }
 
 /// One desk for each pool, in their order, with one rule set for each options file.
@@ -45,7 +52,8 @@ pub(crate) fn make_desks(
 ) -> Result<Vec<Desk>, NoMemory>
     requires some { 0 < length options.now }
     requires few { length options.now ≤ 4 }
-    ensures { IfOk result (λ desks. desks.items ≡ map (desk_of options.now) pools.now) }
+    ensures desks { IfOk result (λ desks. desks.items ≡ map (desk_of options.now) pools.now) }
+    ensures lawful { IfOk result (λ desks. AllByRecursion HasLawfulSets desks.items) }
 {
     let mut desks = Vec::new(alloc);
     for pool in pools {

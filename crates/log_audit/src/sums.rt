@@ -1,19 +1,25 @@
 //! The sums of a log.
-ghost use Rattle.std.specs.Prelude.{◌≡◌, IfErr, IfOk};
-ghost use Rattle.log_audit.specs.Summed.{SumsUp};
+ghost use Rattle.std.specs.Prelude.{◌≡◌, IfErr, IfOk, List, flat_map, length};
+ghost use Rattle.log_audit.specs.Desks.{days_told};
+ghost use Rattle.log_audit.specs.Summed.{AreUsers};
 ghost use Rattle.log_audit.specs.declared.fault.AuditFault.TheVariants.{NoMemory as Want};
 
+use crate::day_sum::DaySum;
+use crate::desk::Desk;
 use crate::fault::AuditFault;
 use crate::log::Numbered;
 use crate::users::{UserSum, users_of};
+use lic_types::NoMemory;
 use std::alloc::Global;
 use std::marker::Model;
 
-/// The sums of a log. Contracts see them as the number of its entries and the list of the sums of its users.
+/// The sums of a log. Contracts see them as the number of its entries, the list of the sums of its users and that of the sums
+/// of its days.
 #[derive(Drop)]
 pub struct Sums {
     entries: u64,
     users: Vec<UserSum>,
+    days: Vec<DaySum>,
 }
 
 impl Model for Sums {
@@ -21,7 +27,7 @@ impl Model for Sums {
 
     ghost Value = { Summed };
 
-    ghost view = { λ s. record { entries = s.entries; users = s.users.items } };
+    ghost view = { λ s. record { entries = s.entries; users = s.users.items; days = s.days.items } };
 }
 
 impl Sums {
@@ -38,16 +44,38 @@ impl Sums {
     {
         self.users.as_slice()
     }
+
+    /// The days of each pool that have entries of it, pool by pool, and of one pool in the order of the calendar.
+    pub fn days(&self) -> &[DaySum]
+        ensures { result.now ≡ self.now.days }
+    {
+        self.days.as_slice()
+    }
 }
 
-/// The sums of the entries of a log.
-pub(crate) fn sum_up(alloc: Global, log: &[Numbered]) -> Result<Sums, AuditFault>
-    ensures sums { IfOk result (λ sums. SumsUp log.now sums) }
+/// The days of the entries that desks made, pool by pool.
+fn days_of(alloc: Global, desks: &[Desk]) -> Result<Vec<DaySum>, NoMemory>
+    ensures { IfOk result (λ days. days.items ≡ flat_map days_told desks.now) }
+{
+    let mut days = Vec::new(alloc);
+    for desk in desks {
+        desk.days.put(&mut days)?;
+    }
+    Ok(days)
+}
+
+/// The sums of the entries of a log, which these desks made.
+pub(crate) fn sum_up(alloc: Global, desks: &[Desk], log: &[Numbered]) -> Result<Sums, AuditFault>
+    ensures entries { IfOk result (λ sums. sums.entries ≡ length log.now) }
+    ensures users { IfOk result (λ sums. AreUsers log.now sums.users) }
+    ensures days { IfOk result (λ sums. sums.days ≡ flat_map days_told desks.now) }
     ensures err { IfErr result (λ fault. fault ≡ Want) }
 {
     let users = users_of(alloc, log)?;
+    let days = days_of(alloc, desks)?;
     Ok(Sums {
         entries: log.len() as u64,
         users,
+        days,
     })
 }

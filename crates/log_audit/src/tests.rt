@@ -1,4 +1,4 @@
-use crate::{AuditFault, Audited, UserSum, audit};
+use crate::{AuditFault, Audited, DaySum, Sums, UserSum, audit};
 use feature_lines::read_licence;
 use lic_types::Name;
 use options_machine::{Charge, Reply};
@@ -24,6 +24,14 @@ fn audited(alloc: Global, files: usize, log: &[u8]) -> Result<Result<Audited, Au
     Ok(audit(alloc, &licence, options.as_slice(), log))
 }
 
+/// The sums of a log, where it is a run.
+fn summed(alloc: Global, files: usize, log: &[u8]) -> Result<Option<Sums>, Fail> {
+    match audited(alloc, files, log)? {
+        Ok(Audited::Yes(sums)) => Ok(Some(sums)),
+        _ => Ok(None),
+    }
+}
+
 /// The entries of both pools go by their own places, and lines that sum up a log are passed over. A lingering seat that is
 /// taken again is a grant.
 #[test]
@@ -37,8 +45,7 @@ fn a_run_is_summed(rt: HostRuntime) -> Result<(), Fail> {
         ENTRY 1 #1 9 0 ann h1 d1 p1 REREAD REREAD 1\n\
         LOG 1 ENTRIES 2 WHOLE\n\
         TALLY 0 CALLS 3 GRANTS 2 CARD USES 2\n";
-    let shown = audited(rt.alloc(), 2, log)?;
-    let Ok(Audited::Yes(sums)) = shown else {
+    let Some(sums) = summed(rt.alloc(), 2, log)? else {
         assert!(rt; false);
         return Ok(());
     };
@@ -52,6 +59,68 @@ fn a_run_is_summed(rt: HostRuntime) -> Result<(), Fail> {
     };
     assert_eq!(rt; sums.entries(), 5);
     assert!(rt; sums.users() == [ann, cy].as_slice());
+    Ok(())
+}
+
+/// What is held over midnight counts for the day on which it began, from each entry to the next; the seats of a day are those
+/// after its entries.
+#[test]
+fn a_stretch_counts_for_the_day_on_which_it_begins(rt: HostRuntime) -> Result<(), Fail> {
+    let log = b"ENTRY 0 #0 0 0 ann h1 d1 p1 CHECKOUT GRANTED OPEN\n\
+        ENTRY 0 #1 100 1 bob h2 d2 p2 CHECKOUT GRANTED OPEN\n\
+        ENTRY 0 #2 86400 2 cy h3 d3 p3 CHECKOUT NOSEAT TAKEN 2 OF 2\n\
+        ENTRY 0 #3 86500 0 ann h1 d1 p1 CHECKIN RETURNED\n";
+    let Some(sums) = summed(rt.alloc(), 1, log)? else {
+        assert!(rt; false);
+        return Ok(());
+    };
+    let first = DaySum {
+        pool: 0,
+        day: 0,
+        peak: 2,
+        seconds: 172_700,
+        denied: 0,
+        noseat: 0,
+        grants: 2,
+    };
+    let second = DaySum {
+        pool: 0,
+        day: 1,
+        peak: 2,
+        seconds: 200,
+        denied: 0,
+        noseat: 1,
+        grants: 0,
+    };
+    assert!(rt; sums.days() == [first, second].as_slice());
+    Ok(())
+}
+
+/// Each pool has its own days. The seat that is given back on the third day was held on none of its entries, and the last
+/// second that counts for a day of its own is that of 31-dec-9999.
+#[test]
+fn the_days_of_two_pools(rt: HostRuntime) -> Result<(), Fail> {
+    let log = b"ENTRY 1 #0 172799 0 ann h1 d1 p1 CHECKOUT GRANTED OPEN\n\
+        ENTRY 0 #0 253402300799 1 bob h2 d2 p2 LOOK NOTHELD\n\
+        ENTRY 1 #1 172800 0 ann h1 d1 p1 CHECKIN RETURNED\n\
+        ENTRY 0 #1 253402300800 1 bob h2 d2 p2 LOOK NOTHELD\n\
+        ENTRY 0 #2 300000000000 1 bob h2 d2 p2 LOOK NOTHELD\n";
+    let Some(sums) = summed(rt.alloc(), 1, log)? else {
+        assert!(rt; false);
+        return Ok(());
+    };
+    let days = sums.days();
+    let rows: [(u32, u32, u32, u64); 4] = [
+        (0, 2_932_896, 0, 0),
+        (0, 2_932_897, 0, 0),
+        (1, 1, 1, 1),
+        (1, 2, 0, 0),
+    ];
+    assert_eq!(rt; days.len(), rows.len());
+    for ((pool, day, peak, seconds), sum) in rows.iter().zip(days) {
+        assert_eq!(rt; (sum.pool, sum.day), (*pool, *day));
+        assert_eq!(rt; (sum.peak, sum.seconds), (*peak, *seconds));
+    }
     Ok(())
 }
 

@@ -1,6 +1,5 @@
 use Rattle.std.proofs.Common.{List, [], ℕ, ◌≡◌, ◌++◌, ◌∙◌, ap, append-nil, arith, map, subst, sym, take}
 use Rattle.log_audit.specs.declared.log.Numbered.{Numbered}
-use Rattle.log_audit.specs.declared.users.UserName.{UserName}
 use Rattle.log_audit.proofs.Grants.{Counted, are_users, counted_more, room_left, sum_of}
 use Rattle.log_audit.proofs.Pools.{all_taken, next_taken}
 use Rattle.log_audit.proofs.users.users_of.Goals as goal
@@ -25,6 +24,6 @@ returns-clause-users c =
     let items = c.loop-user.users.items in
     let counted = subst (λ (l : List Numbered). Counted l c.loop-entry.counts.entries) (all_taken c.args.log.now c.loop-entry.entry-index c.loop-entry-test.false) c.loop-entry.invariant in
     let whole : items ++ map sum_of [] ≡ map sum_of c.loop-entry.counts.entries =
-    ap (λ (left : List (UserName × ℕ)). items ++ map sum_of left) (sym c.in-None.ensures.steps.0)
+    ap (λ (left : List (List ℕ × ℕ)). items ++ map sum_of left) (sym c.in-None.ensures.steps.0)
     ∙ (c.loop-user.invariant.2 ∙ ap (map sum_of) (c.into_iter-user-iterator.ensures.into_iter_gives ∙ c.iter-user-items.ensures.rest)) in
     are_users c.args.log.now c.loop-entry.counts.entries items counted c.iter-user-items.ensures.ordered (sym (append-nil items) ∙ whole)

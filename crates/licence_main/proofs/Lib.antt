@@ -1,9 +1,0 @@
-pub mod Asking
-pub mod Checks
-pub mod Clauses
-pub mod Hearing
-pub mod Replays
-pub mod Runs
-pub mod Sets
-pub mod Verdicts
-pub mod WordLists

@@ -1,9 +1,0 @@
-pub mod Asked
-pub mod AuditText
-pub mod Command
-pub mod FaultText
-pub mod Files
-pub mod Outcome
-pub mod Status
-pub mod Tool
-pub mod Words

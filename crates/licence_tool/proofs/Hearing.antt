@@ -1,0 +1,122 @@
+use Rattle.std.proofs.Common.{◌≡◌, ◌≢◌, ◌+◌, ◌≤◌, ◌<◌, ℕ, List, [], length, replicate, None, Some, IfSome, Result, Ok, Err, refl, sym, ap, subst, arith, le-ltb, lt-ltb}
+use Rattle.std.proofs.lemmas.List.{length-replicate}
+use Rattle.options_text.specs.Answers.{◌>>=◌}
+use Rattle.licence_tool.specs.Files.{Bytes, IsReading}
+use Rattle.licence_tool.specs.Outcome.{heard}
+use Rattle.options_text.specs.Options.{OptionsFile}
+use Rattle.options_text.specs.declared.fault.OptionsFault.{OptionsFault}
+use Rattle.options_text.specs.declared.fault.OptionsFault.TheVariants.{NoMemory as TooLittle}
+use Rattle.licence_tool.specs.Tool.{HearingSays, IsHeard, IsOptionsFault, RefusalSays}
+use Rattle.licence_tool.specs.declared.status.Status.{Status}
+use Rattle.licence_tool.specs.declared.status.Status.TheVariants.{Done, Usage, Licence, Options, MoreOptions, Script, ReadFault, WriteFault, NoMemory, FileTooLong, AuditNo}
+
+-- what a status says of an answer, it says of what follows from that answer
+pub refusal_onward : {X Y : Type 0} (Failed Wide : Type 0) (answer : Result X Status) (next : X → Result Y Status) (status : Status) → (Failed → Wide) → RefusalSays Failed answer status → RefusalSays Wide (answer >>= next) status
+refusal_onward Failed Wide answer next NoMemory wide says = tt
+refusal_onward Failed Wide answer next (ReadFault file) wide says = (ap (λ h. h >>= next) says.0, wide says.1)
+refusal_onward Failed Wide answer next (FileTooLong file) wide says = ap (λ h. h >>= next) says
+refusal_onward Failed Wide answer next (Script fault) wide says = ap (λ h. h >>= next) says
+refusal_onward Failed Wide answer next (Licence fault) wide says = (ap (λ h. h >>= next) says.0, says.1)
+refusal_onward Failed Wide answer next (Options fault) wide says = (ap (λ h. h >>= next) says.0, says.1)
+refusal_onward Failed Wide answer next (MoreOptions set fault) wide says = (ap (λ h. h >>= next) says.0, says.1)
+refusal_onward Failed Wide answer next Done wide says = absurd says
+refusal_onward Failed Wide answer next Usage wide says = absurd says
+refusal_onward Failed Wide answer next WriteFault wide says = absurd says
+refusal_onward Failed Wide answer next (AuditNo line) wide says = absurd says
+
+-- and where more readings may have failed
+pub refusal_wider : {X : Type 0} (Failed Wide : Type 0) (answer : Result X Status) (status : Status) → (Failed → Wide) → RefusalSays Failed answer status → RefusalSays Wide answer status
+refusal_wider Failed Wide answer NoMemory wide says = tt
+refusal_wider Failed Wide answer (ReadFault file) wide says = (says.0, wide says.1)
+refusal_wider Failed Wide answer (FileTooLong file) wide says = says
+refusal_wider Failed Wide answer (Script fault) wide says = says
+refusal_wider Failed Wide answer (Licence fault) wide says = says
+refusal_wider Failed Wide answer (Options fault) wide says = says
+refusal_wider Failed Wide answer (MoreOptions set fault) wide says = says
+refusal_wider Failed Wide answer Done wide says = absurd says
+refusal_wider Failed Wide answer Usage wide says = absurd says
+refusal_wider Failed Wide answer WriteFault wide says = absurd says
+refusal_wider Failed Wide answer (AuditNo line) wide says = absurd says
+
+-- a file whose bytes aren't heard isn't judged
+pub unheard : {X V Y : Type 0} (view : X → Y) (bytes_of : V → List ℕ) (position : ℕ) (next : List ℕ → Result Y Status) (Failed : Type 0) (told : Bytes) (status : Status)
+    → IsHeard bytes_of (heard position) Failed told (Err status) → IsHeard view (λ (r : Bytes). heard position r >>= next) Failed told (Err status)
+unheard view bytes_of position next Failed told status h =
+    record { reading = h.reading; is = h.is; says = refusal_onward Failed Failed (heard position h.reading) next status (λ f. f) h.says }
+
+-- a file whose bytes are heard is judged by them
+pub judged : {X V Y : Type 0} (view : X → Y) (bytes_of : V → List ℕ) (position : ℕ) (next : List ℕ → Result Y Status) (Failed : Type 0) (told : Bytes) (bytes : V) (result : Result X Status)
+    → IsHeard bytes_of (heard position) Failed told (Ok bytes) → HearingSays view Failed (next (bytes_of bytes)) result → IsHeard view (λ (r : Bytes). heard position r >>= next) Failed told result
+judged view bytes_of position next Failed told bytes result h says =
+    record { reading = h.reading; is = h.is; says = subst (λ (a : Result (List ℕ) Status). HearingSays view Failed (a >>= next) result) (sym h.says) says }
+
+-- few enough bytes are heard
+pub heard_few : (position : ℕ) (bytes : List ℕ) → length bytes ≤ 1048576 → heard position (Some bytes) ≡ Ok bytes
+heard_few position bytes few = rw (le-ltb 1048576 (length bytes) few) refl
+
+-- and too many aren't
+pub heard_too_many : (position : ℕ) (bytes : List ℕ) → 1048576 < length bytes → heard position (Some bytes) ≡ Err (FileTooLong position)
+heard_too_many position bytes many = rw (lt-ltb 1048576 (length bytes) many) refl
+
+-- bytes that agree with what is told
+pub agreeing : Bytes → Bytes
+agreeing None = Some []
+agreeing (Some held) = Some held
+
+pub is_agreeing : (Failed : Type 0) (told : Bytes) → IsReading Failed told (agreeing told)
+unfolding agreeing
+is_agreeing Failed None = tt
+is_agreeing Failed (Some held) = refl
+
+-- bytes that agree with what is told, and are more than the limit where that may be
+too_many : ℕ → Bytes → List ℕ
+too_many limit None = replicate (limit + 1) 0
+too_many limit (Some held) = held
+
+too_many_agree : (limit : ℕ) (Failed : Type 0) (told : Bytes) → IsReading Failed told (Some (too_many limit told))
+unfolding too_many
+too_many_agree limit Failed None = tt
+too_many_agree limit Failed (Some held) = refl
+
+are_too_many : (limit : ℕ) (told : Bytes) → IfSome told (λ held. limit < length held) → limit < length (too_many limit told)
+unfolding too_many
+are_too_many limit None many = omega (arith, length-replicate {A = ℕ} (limit + 1) 0)
+are_too_many limit (Some held) many = many
+
+-- a file that is too long is heard so
+pub heard_long : {V : Type 0} (bytes_of : V → List ℕ) (position : ℕ) (Failed : Type 0) (told : Bytes) → IfSome told (λ held. 1048576 < length held)
+    → IsHeard bytes_of (heard position) Failed told (Err (FileTooLong position))
+heard_long bytes_of position Failed told many = record {
+  reading = Some (too_many 1048576 told);
+  is = too_many_agree 1048576 Failed told;
+  says = heard_too_many position (too_many 1048576 told) (are_too_many 1048576 told many);
+}
+
+-- a file that is read is heard
+pub heard_whole : {V : Type 0} (bytes_of : V → List ℕ) (position : ℕ) (Failed : Type 0) (told : Bytes) (bytes : V) → IfSome told (λ held. bytes_of bytes ≡ held) → length (bytes_of bytes) ≤ 1048576
+    → IsHeard bytes_of (heard position) Failed told (Ok bytes)
+heard_whole bytes_of position Failed told bytes are few = record {
+  reading = Some (bytes_of bytes);
+  is = are;
+  says = heard_few position (bytes_of bytes) few;
+}
+
+-- a file whose reading failed
+pub heard_failed : {V : Type 0} (bytes_of : V → List ℕ) (position : ℕ) (Failed : Type 0) (told : Bytes) → Failed
+    → IsHeard bytes_of (heard position) Failed told (Err (ReadFault position))
+heard_failed bytes_of position Failed told failed = record { reading = None; is = failed; says = (refl, failed) }
+
+-- a file for which there was too little memory
+pub heard_without_memory : {V : Type 0} (bytes_of : V → List ℕ) (position : ℕ) (Failed : Type 0) (told : Bytes)
+    → IsHeard bytes_of (heard position) Failed told (Err NoMemory)
+heard_without_memory bytes_of position Failed told = record { reading = agreeing told; is = is_agreeing Failed told; says = tt }
+
+abbrev pub refused_for : OptionsFault → Result OptionsFile OptionsFault
+refused_for fault = Err fault
+
+-- the fault of options that a reader answers
+pub options_fault : (options : Result OptionsFile OptionsFault) (fault : OptionsFault) → (refused_for fault ≢ refused_for TooLittle → refused_for fault ≡ options) → IsOptionsFault options fault
+options_fault options fault says = λ own. sym (says (λ (e : refused_for fault ≡ refused_for TooLittle). own (same_fault fault e)))
+  where
+    same_fault : (f : OptionsFault) → refused_for f ≡ refused_for TooLittle → f ≡ TooLittle
+    same_fault f e = cc
