@@ -5,7 +5,7 @@ use Rattle.std.proofs.lemmas.List.{get_or-map, length-map}
 use Rattle.std.proofs.lemmas.List.Elements.{All-map}
 use Rattle.std.proofs.lemmas.List.Sums.{sum_by-cons}
 use Rattle.kex_words.specs.declared.card.Card.{Card}
-use Rattle.kex_words.specs.Passes.{TableNet}
+use Rattle.desk_seats.specs.Views.{SeatsView}
 use Rattle.options_machine.specs.declared.reply.Entry.{Entry}
 use Rattle.options_machine.specs.Own.{own}
 use Rattle.options_machine.proofs.Counts.{count-cons}
@@ -85,7 +85,7 @@ module _ (d : DeskView) (passes : List Sitter) (closable : AreClosable d passes)
           seen = of_accounts (λ (a : Asker). Extends a.seen history) (λ (a : Account). Extends a.seen history) (λ s e. e) told.seen;
           mine = of_accounts (λ (a : Asker). own history a.number ≡ a.mine) (λ (a : Account). own history a.party ≡ a.mine) (λ s e. e) told.mine;
           low = All-map (λ (a : Account). AreLow d.seats.net.width a.got) account_of passes
-              (all_both IsSettled (λ (s : Sitter). IsOf s d) (λ (s : Sitter). AreLow d.seats.net.width s.seat.got) passes (λ s i o. subst (λ (t : TableNet). AreLow t.net.width s.seat.got) o.seats i.low) settled closable.own);
+              (all_both IsSettled (λ (s : Sitter). IsOf s d) (λ (s : Sitter). AreLow d.seats.net.width s.seat.got) passes (λ s i o. subst (λ (t : SeatsView). AreLow t.net.width s.seat.got) o.seats i.low) settled closable.own);
           others = λ q nobody. told.others q (subst (All (λ (a : Asker). a.number ≢ q)) (sym tickets_are)
               (All-map (λ (a : Asker). a.number ≢ q) ticket_of passes (all_unmap (λ (a : Account). a.party ≢ q) account_of passes nobody)));
         },

@@ -5,7 +5,7 @@ use Rattle.std.proofs.lemmas.Bool.{eq-eqb}
 use Rattle.std.proofs.lemmas.List.{append_cancel_right}
 use Rattle.std.proofs.lemmas.List.Elements.{filter-append}
 use Rattle.lic_types.specs.declared.client.Client.{Client}
-use Rattle.kex_words.specs.Passes.{Pass}
+use Rattle.desk_seats.specs.Passes.{SeatPass}
 use Rattle.options_machine.specs.declared.reply.Entry.{Entry}
 use Rattle.options_machine.specs.declared.reply.Kind.{Kind}
 use Rattle.options_machine.specs.declared.reply.Kind.TheVariants.{Quit}
@@ -178,7 +178,7 @@ module _ (t u : Asker) (client : Client) (kind : Kind) (moment used : ℕ) (answ
           ap (λ (n : ℕ). standing (before ++ e ∷ []) n) is_own ∙ (own_tells (before ++ e ∷ []) u.number ∙ ap (λ (h : List Entry). standing h u.number) (ap (λ (h : List Entry). own h u.number) (sym makes.seen) ∙ sym makes.only)) in
           (ap (is_some_of is_of_holding) (sym same) ∙ l.0, ap (is_some_of is_of_queueing) (sym same) ∙ l.1)
 
-      pub enters : (p : Pass) → Enters (account_of (record { ticket = t; seat = p })) (account_of (record { ticket = u; seat = p })) kind client moment asked before e
+      pub enters : (p : SeatPass) → Enters (account_of (record { ticket = t; seat = p })) (account_of (record { ticket = u; seat = p })) kind client moment asked before e
       enters p = record {
         sets = ap (λ (l : DeskLaw). l.sets) law_is;
         party = number_is;

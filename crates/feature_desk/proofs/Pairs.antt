@@ -2,7 +2,7 @@
 use Rattle.std.proofs.Common.{◌≡◌, ℕ, zero, suc, ◌+◌, ◌<◌, List, [], ◌∷◌, ◌++◌, reverse, length, refl, ap, sym, ◌∙◌, subst, arith, slice_get, Some, EachIndex, All, length-append}
 use Rattle.std.proofs.lemmas.List.{reverse-append}
 use Rattle.std.proofs.lemmas.Option.{get_or_from_slice_get}
-use Rattle.kex_words.specs.Passes.{Pass}
+use Rattle.desk_seats.specs.Passes.{SeatPass}
 use Rattle.desk_book.specs.Askers.{Asker}
 use Rattle.feature_desk.specs.Sitters.{DeskView, IsOf, Sitter, newcomer}
 
@@ -55,11 +55,11 @@ all_made d made all n is so whole =
     (count, λ i lt. ap (λ (l : List Sitter). slice_get l i) same ∙ newcomer_at d 0 n i (omega (arith, lt, count)) ∙ ap (λ (m : ℕ). Some (newcomer d m)) (omega arith))
 
 -- the two passes of a newcomer fit
-pub newcomer_fits : (d : DeskView) (n m : ℕ) (t : Asker) (o : Pass) → t ≡ (newcomer d n).ticket → o ≡ (newcomer d m).seat → n ≡ m → (o.number ≡ t.number) × (t.mine ≡ []) × (o.got ≡ [])
+pub newcomer_fits : (d : DeskView) (n m : ℕ) (t : Asker) (o : SeatPass) → t ≡ (newcomer d n).ticket → o ≡ (newcomer d m).seat → n ≡ m → (o.number ≡ t.number) × (t.mine ≡ []) × (o.got ≡ [])
 newcomer_fits d n m t o ticket seat same = (
-  ap (λ (p : Pass). p.number) seat ∙ (sym same ∙ sym (ap (λ (a : Asker). a.number) ticket)),
+  ap (λ (p : SeatPass). p.number) seat ∙ (sym same ∙ sym (ap (λ (a : Asker). a.number) ticket)),
   ap (λ (a : Asker). a.mine) ticket,
-  ap (λ (p : Pass). p.got) seat,
+  ap (λ (p : SeatPass). p.got) seat,
 )
 
 -- and are of the desk

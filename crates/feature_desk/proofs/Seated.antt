@@ -4,10 +4,11 @@ use Rattle.std.proofs.lemmas.Bool.{lt-ltb}
 use Rattle.std.proofs.lemmas.List.Folds.{list_all-append}
 use Rattle.kex_core.specs.declared.place.Place.TheVariants.{Holding}
 use Rattle.kex_core.specs.Shapes.{plan}
-use Rattle.kex_words.specs.Passes.{Held, Pass, TableNet}
-use Rattle.seat_names.specs.declared.turns.Turn.{Turn}
-use Rattle.seat_names.specs.declared.turns.Turn.TheVariants.{Again, Through}
-use Rattle.seat_names.specs.Turns.{IsAgain, IsThrough, pass_in_turn}
+use Rattle.desk_seats.specs.declared.turns.SeatTurn.{SeatTurn}
+use Rattle.desk_seats.specs.declared.turns.SeatTurn.TheVariants.{Again, Through}
+use Rattle.desk_seats.specs.Passes.{SeatHeld, SeatPass}
+use Rattle.desk_seats.specs.Turns.{Goes, IsAgain, IsThrough, pass_in_turn}
+use Rattle.desk_seats.specs.Views.{SeatsView}
 use Rattle.counter.specs.declared.counter.Asked.{Asked}
 use Rattle.counter.specs.Account.{brings_seat}
 use Rattle.feature_desk.specs.declared.passes.Chair.{Chair}
@@ -17,19 +18,19 @@ use Rattle.feature_desk.specs.declared.passes.Seating.TheVariants as seating
 use Rattle.feature_desk.specs.Sitters.{NotedView, Sitter}
 use Rattle.desk_book.specs.Askers.{Asker}
 use Rattle.feature_desk.specs.Sittings.{Agree, AreLow, Waits, pass_in}
-use Rattle.feature_desk.specs.Seatings.{Goes, GoesOn, IsUnderWay, MatchedAs, Matches, Starts}
+use Rattle.feature_desk.specs.Seatings.{GoesOn, IsUnderWay, MatchedAs, Matches, Starts}
 use Rattle.feature_desk.proofs.Lasts.{last_of}
 
 low_more : (width : ℕ) (got : List ℕ) (s : ℕ) → AreLow width got → s < width → AreLow width (got ++ s ∷ [])
 low_more width got s low new = list_all-append (λ n. ltb n width) got (s ∷ []) ∙ rw (low, lt-ltb s width new) refl
 
 -- whoever has entered a seat that was brought agrees with its entries
-pub agrees_brought : (t : Asker) (c : Chair) (queued : Bool) (a : Asked) (h : Held) (d : TableNet) → Waits t c queued a → brings_seat a.reply ≡ true
+pub agrees_brought : (t : Asker) (c : Chair) (queued : Bool) (a : Asked) (h : SeatHeld) (d : SeatsView) → Waits t c queued a → brings_seat a.reply ≡ true
     → (pass_in c).table ≡ d → h.pass.table ≡ (pass_in c).table → h.pass.number ≡ (pass_in c).number → h.pass.place ≡ Holding h.card.number
     → h.pass.got ≡ (pass_in c).got ++ h.card.number ∷ [] → h.card.number < d.net.width → Agree t (chair.Hold h) queued
 agrees_brought t c queued a h d w brings at table number place got low =
-    let wide : h.pass.table.net.width ≡ d.net.width = ap (λ (z : TableNet). z.net.width) (table ∙ at) in
-    let olds : AreLow d.net.width (pass_in c).got = subst (λ (z : TableNet). AreLow z.net.width (pass_in c).got) at w.belong.low in
+    let wide : h.pass.table.net.width ≡ d.net.width = ap (λ (z : SeatsView). z.net.width) (table ∙ at) in
+    let olds : AreLow d.net.width (pass_in c).got = subst (λ (z : SeatsView). AreLow z.net.width (pass_in c).got) at w.belong.low in
     record {
       belong = record {
         number = number ∙ w.belong.number;
@@ -46,29 +47,39 @@ agrees_brought t c queued a h d w brings at table number place got low =
     }
 
 -- a party that is not among the stages is through
-again_or_through : (t : Turn) → (IsAgain t → IsThrough t → ⊥) × ((IsThrough t → ⊥) → IsAgain t)
+again_or_through : (t : SeatTurn) → (IsAgain t → IsThrough t → ⊥) × ((IsThrough t → ⊥) → IsAgain t)
 again_or_through (Again e) = (λ a th. th, λ no. tt)
 again_or_through (Through h) = (λ a th. a, λ no. no tt)
 
 -- a step towards a seat that was brought goes on where it left the party among the stages
-pub goes_on : (b entering : Bool) (p : Pass) (t : Turn) (s : Seating) → b ≡ true → (pass_in_turn t).table ≡ p.table → (pass_in_turn t).number ≡ p.number
+pub goes_on : (b entering : Bool) (p : SeatPass) (t : SeatTurn) (s : Seating) → b ≡ true → (pass_in_turn t).table ≡ p.table → (pass_in_turn t).number ≡ p.number
     → Starts entering p t → (IsUnderWay s → IsAgain t) → (IsAgain t → IsUnderWay s) → GoesOn b entering p s
 goes_on false entering p t s is table number starts f g = absurd (let never : false ≡ true = is in cc)
 goes_on true true p t s is table number starts f g = (t, starts, (f, g))
-goes_on true false p t s is table number (out, rests, goes, same, at) f g =
-    let sits : out.table ≡ p.table = sym (ap (λ (z : Pass). z.table) same) ∙ table in
-    let who : out.number ≡ p.number = sym (ap (λ (z : Pass). z.number) same) ∙ number in
-    let start : (plan out.table.net).start out.number ≡ (plan p.table.net).start p.number = (λ i. (plan (sits i).net).start (who i)) in
-    let stages : (plan out.table.net).stages ≡ (plan p.table.net).stages = ap (λ (z : TableNet). (plan z.net).stages) sits in
-    let a = again_or_through t in
-    (λ under ends. a.0 (f under) (at.1 (start ∙ (ends ∙ sym stages))), λ not_there. g (a.1 (λ th. not_there (sym start ∙ (at.0 th ∙ stages)))))
+goes_on true false p t s is table number (out, rests, goes, begins) f g = record {
+  plain = λ none.
+      let gate : out.table.gate ≡ None = ap (λ (v : SeatsView). v.gate) goes.table ∙ none in
+      let at = (begins.plain gate).1 in
+      let start : (plan out.table.net).start out.number ≡ (plan p.table.net).start p.number = (λ i. (plan (goes.table i).net).start (goes.number i)) in
+      let stages : (plan out.table.net).stages ≡ (plan p.table.net).stages = ap (λ (z : SeatsView). (plan z.net).stages) goes.table in
+      let a = again_or_through t in
+      (λ under ends. a.0 (f under) (at.1 (start ∙ (ends ∙ sym stages))), λ not_there. g (a.1 (λ th. not_there (sym start ∙ (at.0 th ∙ stages)))));
+  begun = (t, (out, rests, goes, begins), (f, g));
+}
 
 pub matched_brought : (n : NotedView) (p : Sitter) (s : ℕ) → brings_seat n.asked.reply ≡ true → p.ticket ≡ n.sitter.ticket → p.seat.place ≡ Holding s → p.seat.got ≡ n.sitter.seat.got ++ s ∷ [] → Goes n.sitter.seat p.seat → MatchedAs n p
 matched_brought n p s brings ticket place got goes = record { ticket = ticket; seat = subst (λ (b : Bool). Matches b n.asked.held n.sitter.seat p.seat) (sym brings) (s, place, got); goes = goes }
 
 -- a step that left the party among the stages
-pub under_way : (n k m : NotedView) (t : Turn) → n ≡ k → brings_seat n.asked.reply ≡ true → (pass_in_turn t).table ≡ n.sitter.seat.table → (pass_in_turn t).number ≡ n.sitter.seat.number
+pub under_way : (n k m : NotedView) (t : SeatTurn) → n ≡ k → brings_seat n.asked.reply ≡ true → (pass_in_turn t).table ≡ n.sitter.seat.table → (pass_in_turn t).number ≡ n.sitter.seat.number
     → Starts n.entering n.sitter.seat t → IsAgain t → GoesOn (brings_seat k.asked.reply) k.entering k.sitter.seat (seating.Again m)
 under_way n k m t same brings table number starts again =
     subst (λ (z : NotedView). GoesOn (brings_seat z.asked.reply) z.entering z.sitter.seat (seating.Again m)) same
     (goes_on (brings_seat n.asked.reply) n.entering n.sitter.seat t (seating.Again m) brings table number starts (λ u. again) (λ a. tt))
+
+-- a step that led through the stages
+pub there : (n k : NotedView) (p : Sitter) (a : Asked) (t : SeatTurn) → n ≡ k → brings_seat n.asked.reply ≡ true → (pass_in_turn t).table ≡ n.sitter.seat.table → (pass_in_turn t).number ≡ n.sitter.seat.number
+    → Starts n.entering n.sitter.seat t → IsThrough t → GoesOn (brings_seat k.asked.reply) k.entering k.sitter.seat (seating.Matched p a)
+there n k p a t same brings table number starts through =
+    subst (λ (z : NotedView). GoesOn (brings_seat z.asked.reply) z.entering z.sitter.seat (seating.Matched p a)) same
+    (goes_on (brings_seat n.asked.reply) n.entering n.sitter.seat t (seating.Matched p a) brings table number starts (λ under. absurd under) (λ again. (again_or_through t).0 again through))

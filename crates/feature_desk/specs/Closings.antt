@@ -1,7 +1,7 @@
 -- What is known of a desk's history when it was closed with all its passes.
-use Rattle.std.specs.Prelude.{◌≡◌, ◌≢◌, ◌≤◌, ℕ, ◌%◌, ◌^◌, false, nat_lt, List, [], length, take, All, Option, None, Some}
+use Rattle.std.specs.Prelude.{◌≡◌, ◌≢◌, ◌≤◌, ℕ, ◌%◌, ◌^◌, false, nat_lt, List, [], length, take, All}
 use Rattle.audit_log.specs.Rule.{most}
-use Rattle.kex_words.specs.Passes.{TableNet, TakenIn}
+use Rattle.desk_seats.specs.Views.{SeatsView}
 use Rattle.options_machine.specs.declared.reply.Entry.{Entry}
 use Rattle.options_machine.specs.Own.{holds, own}
 use Rattle.options_machine.specs.Run.{IsRun}
@@ -12,16 +12,18 @@ use Rattle.feature_desk.specs.declared.closing.DeskTally.{DeskTally}
 use Rattle.feature_desk.specs.Sitters.{DeskView, IsOf, Sitter}
 use Rattle.feature_desk.specs.Sittings.{AreLow}
 
--- who keeps a desk's log: the keeper of its book, and for how many passes there is room
+-- who keeps a desk's log: the keeper of its book, for how many passes there is room, and of which seats the passes will be taken in
 pub record DeskKeeperView : Type 0 where
   pub book : KeeperView
   pub room : ℕ
+  pub seats : SeatsView
 
 -- the keeper is of this desk, and has room for all its passes
 pub record IsKeeperOf (k : DeskKeeperView) (d : DeskView) : Type 0 where
   pub queue : k.book.queue ≡ d.lock.law.queue
   pub book_room : d.lock.id.parties ≤ k.book.room
   pub room : d.lock.id.parties ≤ k.room
+  pub seats : k.seats ≡ d.seats
 
 -- the party's standing reply is not of holding
 abbrev pub Rests : Sitter → Type 0
@@ -36,21 +38,6 @@ pub record AreClosable (d : DeskView) (passes : List Sitter) : Type 0 where
 pub record IsSettled (s : Sitter) : Type 0 where
   pub low : AreLow s.seat.table.net.width s.seat.got
   pub count : length s.seat.got ≡ grants s.ticket.mine
-
--- passes of these seats were taken in, if any
-abbrev pub IsTakenFrom : TableNet → Option TakenIn → Type 0
-IsTakenFrom t None = Unit {0}
-IsTakenFrom t (Some g) = g.table ≡ t
-
--- how many passes were taken in
-abbrev pub count_in : Option TakenIn → ℕ
-count_in None = 0
-count_in (Some g) = length g.numbers
-
--- how many numbers they took
-abbrev pub length_in : Option TakenIn → ℕ
-length_in None = 0
-length_in (Some g) = length g.got
 
 -- the history is a run of the rule sets; the tally's calls are its length, its grants the replies that brought a seat, and its uses the same; each account has seen a beginning of it, has its party's own part, and got numbers of seats below their number; and it has no other entries
 pub record Tells (d : DeskView) (accounts : List Account) (t : DeskTally) (history : List Entry) : Type 0 where

@@ -1,25 +1,20 @@
 -- What the calls of a desk do.
-use Rattle.std.specs.Prelude.{◌≡◌, ◌≢◌, ◌↔◌, ℕ, Bool, true, false, List, [], ◌∷◌, ◌++◌}
+use Rattle.std.specs.Prelude.{◌≡◌, ◌≢◌, ◌↔◌, ℕ, Bool, true, false, [], ◌∷◌, ◌++◌, None}
 use Rattle.kex_core.specs.declared.place.Place.TheVariants.{Holding}
 use Rattle.kex_core.specs.Shapes.{plan}
-use Rattle.kex_words.specs.Passes.{Pass, IsOut}
-use Rattle.seat_names.specs.declared.turns.Turn.{Turn}
-use Rattle.seat_names.specs.Turns.{IsAgain, IsThrough, Turned, pass_in_turn}
-use Rattle.seat_names.specs.Ways.{Leads}
+use Rattle.desk_seats.specs.declared.turns.SeatTurn.{SeatTurn}
+use Rattle.desk_seats.specs.Passes.{IsOut, SeatPass}
+use Rattle.desk_seats.specs.Turns.{Begins, Goes, IsAgain, Turned}
 use Rattle.counter.specs.Account.{brings_seat}
 use Rattle.feature_desk.specs.declared.passes.Seating.{Seating}
 use Rattle.feature_desk.specs.declared.passes.Seating.TheVariants.{Again, Matched}
 use Rattle.feature_desk.specs.Sitters.{DeskView, IsOf, NotedView, Sitter}
 
 -- a seat that an entry brought was entered; one that is held on stays; any other is left
-abbrev pub Matches : Bool → Bool → Pass → Pass → Type 0
+abbrev pub Matches : Bool → Bool → SeatPass → SeatPass → Type 0
 Matches true held old new = (s : ℕ) × (new.place ≡ Holding s) × (new.got ≡ old.got ++ s ∷ [])
 Matches false true old new = ((s : ℕ) × (new.place ≡ Holding s)) × (new ≡ old)
 Matches false false old new = IsOut new × (new.got ≡ old.got)
-
--- the accesses that are due, one after another, lead from one pass to the other
-abbrev pub Goes : Pass → Pass → Type 0
-Goes old new = (way : List Pass) × Leads old way new
 
 -- the seat agrees with what was asked
 pub record MatchedAs (n : NotedView) (p : Sitter) : Type 0 where
@@ -45,16 +40,21 @@ abbrev pub IsUnderWay : Seating → Type 0
 IsUnderWay (Again m) = Unit {0}
 IsUnderWay (Matched p asked) = ⊥
 
--- where no seat has to be entered, none has to be taken; the first step goes past a start at Exit alone; a later one is a turn at the seats, and goes on where that did
-abbrev pub GoesOn : Bool → Bool → Pass → Seating → Type 0
-GoesOn false entering p s = IsUnderWay s → ⊥
-GoesOn true false p s = IsUnderWay s ↔ ((plan p.table.net).start p.number ≢ (plan p.table.net).stages)
-GoesOn true true p s = (t : Turn) × Turned p t × (IsUnderWay s ↔ IsAgain t)
-
--- a first step leaves what is held and begins to enter, which makes no access; a later one is a turn
-abbrev pub Starts : Bool → Pass → Turn → Type 0
-Starts false p t = (out : Pass) × IsOut out × Goes p out × (pass_in_turn t ≡ out) × (IsThrough t ↔ ((plan out.table.net).start out.number ≡ (plan out.table.net).stages))
+-- a first step leaves what is held and begins to enter; a later one is a turn
+abbrev pub Starts : Bool → SeatPass → SeatTurn → Type 0
+Starts false p t = (out : SeatPass) × IsOut out × Goes p out × Begins out t
 Starts true p t = Turned p t
+
+-- a first step goes on where what it begins does: with no gate before the seats it goes past a start at Exit alone
+pub record FirstStep (p : SeatPass) (s : Seating) : Type 0 where
+  pub plain : p.table.gate ≡ None → IsUnderWay s ↔ ((plan p.table.net).start p.number ≢ (plan p.table.net).stages)
+  pub begun : (t : SeatTurn) × Starts false p t × (IsUnderWay s ↔ IsAgain t)
+
+-- where no seat has to be entered, none has to be taken; a later step than the first is a turn at the seats, and goes on where that did
+abbrev pub GoesOn : Bool → Bool → SeatPass → Seating → Type 0
+GoesOn false entering p s = IsUnderWay s → ⊥
+GoesOn true false p s = FirstStep p s
+GoesOn true true p s = (t : SeatTurn) × Turned p t × (IsUnderWay s ↔ IsAgain t)
 
 -- the seat is as it was
 abbrev pub Keeps : NotedView → Seating → Type 0

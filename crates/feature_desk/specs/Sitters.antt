@@ -1,8 +1,7 @@
 -- What a desk and its passes are to whoever has them.
-use Rattle.std.specs.Prelude.{◌≡◌, ℕ, Bool, Option, None, Some}
-use Rattle.kex_core.specs.declared.place.Place.{Place}
-use Rattle.kex_core.specs.declared.place.Place.TheVariants.{Out, Dec, Mark, Look, Spin, Naming, Named, Holding, Clearing, Inc, Unmark}
-use Rattle.kex_words.specs.Passes.{Pass, TableNet, unused}
+use Rattle.std.specs.Prelude.{◌≡◌, ℕ, Bool}
+use Rattle.desk_seats.specs.Passes.{SeatPass, unused}
+use Rattle.desk_seats.specs.Views.{SeatsView}
 use Rattle.turn_lock.specs.Passes.{Lock}
 use Rattle.counter.specs.declared.counter.Asked.{Asked}
 use Rattle.counter.specs.Account.{Account}
@@ -13,12 +12,12 @@ use Rattle.desk_book.specs.Askers as book
 -- a desk: the lock of its book, and its seats
 pub record DeskView : Type 0 where
   pub lock : Lock DeskLaw
-  pub seats : TableNet
+  pub seats : SeatsView
 
 -- a party at a desk: its pass of the book, and its pass of the seats
 pub record Sitter : Type 0 where
   pub ticket : Asker
-  pub seat : Pass
+  pub seat : SeatPass
 
 -- a party whose entry stands, and whose seat may not agree yet; and whether it is on its way to a seat
 pub record NotedView : Type 0 where
@@ -39,17 +38,3 @@ pub record IsOf (s : Sitter) (d : DeskView) : Type 0 where
 -- a party that has asked nothing yet
 abbrev pub newcomer : DeskView → ℕ → Sitter
 newcomer d p = record { ticket = book.newcomer d.lock p; seat = unused d.seats p }
-
--- the number that is held at a place
-abbrev pub held_at : Place → Option ℕ
-held_at (Holding s) = Some s
-held_at Out = None
-held_at (Dec j) = None
-held_at (Mark j) = None
-held_at (Look j) = None
-held_at (Spin j) = None
-held_at (Naming i) = None
-held_at (Named s) = None
-held_at (Clearing s) = None
-held_at (Inc j) = None
-held_at (Unmark j) = None

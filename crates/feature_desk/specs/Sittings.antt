@@ -3,7 +3,7 @@ use Rattle.std.specs.Prelude.{◌≡◌, ℕ, ◌+◌, Bool, true, false, List, 
 use Rattle.std.specs.List.{list_all}
 use Rattle.kex_core.specs.declared.place.Place.{Place}
 use Rattle.kex_core.specs.declared.place.Place.TheVariants.{Out, Dec, Mark, Look, Spin, Naming, Named, Holding, Clearing, Inc, Unmark}
-use Rattle.kex_words.specs.Passes.{Pass, IsOut}
+use Rattle.desk_seats.specs.Passes.{IsOut, SeatPass}
 use Rattle.options_machine.specs.Own.{holds, queues}
 use Rattle.counter.specs.declared.counter.Asked.{Asked}
 use Rattle.counter.specs.Account.{brings_seat, grants, last_from}
@@ -15,7 +15,7 @@ use Rattle.desk_book.specs.Askers.{Asker}
 use Rattle.feature_desk.specs.Standing.{is_of_rereading}
 
 -- the pass of the seats
-abbrev pub pass_in : Chair → Pass
+abbrev pub pass_in : Chair → SeatPass
 pass_in (chair.Out o) = o
 pass_in (chair.Hold h) = h.pass
 pass_in (chair.Entering e) = e
@@ -31,7 +31,7 @@ is_entering (chair.Hold h) = false
 is_entering (chair.Entering e) = true
 
 -- a pass that holds a number, which is the last that it took
-pub record IsHeld (p : Pass) (s : ℕ) : Type 0 where
+pub record IsHeld (p : SeatPass) (s : ℕ) : Type 0 where
   pub place : p.place ≡ Holding s
   pub last : last_from None p.got ≡ Some s
 
@@ -60,7 +60,7 @@ abbrev pub AreLow : ℕ → List ℕ → Type 0
 AreLow width got = list_all (λ n. nat_lt n width) got ≡ true
 
 -- what is kept of a party's two passes, whether or not they agree
-pub record Belong (t : Asker) (p : Pass) : Type 0 where
+pub record Belong (t : Asker) (p : SeatPass) : Type 0 where
   pub number : p.number ≡ t.number
   pub low : AreLow p.table.net.width p.got
 

@@ -1,14 +1,15 @@
 //! The end of a desk.
-ghost use Rattle.std.specs.Prelude.{◌≡◌, ◌+◌, ◌%◌, ◌^◌, ◌<◌, ◌≤◌, ◌++◌, ◌∷◌, [], All, List, MatchBool, length, map, sum_by, vec_len, vec_capacity};
+ghost use Rattle.std.specs.Prelude.{◌≡◌, ◌%◌, ◌^◌, ◌≤◌, ◌++◌, ◌∷◌, [], All, List, MatchBool, length, map, sum_by, vec_len, vec_capacity};
 ghost use Rattle.options_machine.specs.declared.reply.Entry.{Entry};
-ghost use Rattle.feature_desk.specs.Closings.{AreClosable, HasLog, IsKeeperOf, IsSettled, IsTakenFrom, Rests, Tells, count_in, length_in};
+ghost use Rattle.desk_seats.specs.Views.{parties_of};
+ghost use Rattle.feature_desk.specs.Closings.{AreClosable, HasLog, IsKeeperOf, IsSettled, Rests, Tells};
 ghost use Rattle.feature_desk.specs.Sitters.{account_of};
 
 use crate::desk::Desk;
 use crate::passes::{Chair, DeskPass};
 use desk_book::{BookPass, Closed, DeskLog, Keeper, close_book};
-use kex_words::{Card, Gathering, Out};
-use seat_names::Seats;
+use desk_seats::{DeskSeats, SeatGathering, SeatOut};
+use kex_words::Card;
 use std::marker::Model;
 use std::sync::Wait;
 
@@ -25,12 +26,14 @@ pub struct DeskTally {
 
 /// The end of a desk's log at which its entries come out, with the room that the close needs.
 ///
-/// Contracts see it as a `DeskKeeperView`: the `book`'s keeper, and for how many passes there is `room`.
+/// Contracts see it as a `DeskKeeperView`: the `book`'s keeper, for how many passes there is `room`, and of which `seats` the passes will be taken in.
 #[derive(Drop)]
 pub struct DeskKeeper {
     pub(crate) book: Keeper,
     pub(crate) tickets: Vec<BookPass>,
+    pub(crate) gathering: SeatGathering,
     ghost empty: { tickets.items ≡ [] },
+    ghost untaken: { (gathering.numbers ≡ []) × (gathering.got ≡ []) },
 }
 
 impl Model for DeskKeeper {
@@ -39,7 +42,7 @@ impl Model for DeskKeeper {
 
     ghost Value = { DeskKeeperView };
 
-    ghost view = { λ k. record { book = k.book; room = vec_capacity k.tickets } };
+    ghost view = { λ k. record { book = k.book; room = vec_capacity k.tickets; seats = k.gathering.table } };
 }
 
 impl DeskKeeper {
@@ -47,6 +50,7 @@ impl DeskKeeper {
     pub fn take<R: Wait>(&mut self, rt: &R) -> bool
         ensures taken { MatchBool result ((x : Entry) × (self.new.book.taken ≡ self.old.book.taken ++ x ∷ [])) (self.new.book.taken ≡ self.old.book.taken) }
         ensures same { (self.new.book.queue ≡ self.old.book.queue) × (self.new.book.room ≡ self.old.book.room) × (self.new.room ≡ self.old.room) }
+        ensures seats { self.new.seats ≡ self.old.seats }
     {
         self.book.take(rt)
     }
@@ -84,8 +88,12 @@ impl Desk {
         ensures { (history : List Entry) × Tells self (map account_of passes.items) result.0 history × HasLog result.1 history }
     {
         let Desk { turns, seats } = self;
-        let DeskKeeper { book, mut tickets } = keeper;
-        let gathering = split(&seats, passes, &mut tickets);
+        let DeskKeeper {
+            book,
+            mut tickets,
+            gathering,
+        } = keeper;
+        let gathering = split(&seats, gathering, passes, &mut tickets);
         let Closed { log, calls, grants } = close_book(rt, turns, tickets, book);
         let cards = seats.close_gathered(gathering);
         let tally = DeskTally {
@@ -98,8 +106,14 @@ impl Desk {
 }
 
 // The passes of the book of all parties, in order; those of the seats are taken in.
-fn split(seats: &Seats, passes: Vec<DeskPass>, tickets: &mut Vec<BookPass>) -> Gathering
-    requires some { 0 < vec_len passes }
+fn split(
+    seats: &DeskSeats,
+    mut gathering: SeatGathering,
+    passes: Vec<DeskPass>,
+    tickets: &mut Vec<BookPass>,
+) -> SeatGathering
+    requires gathering { (gathering.table ≡ seats.now) × (gathering.numbers ≡ []) × (gathering.got ≡ []) }
+    requires few { vec_len passes ≤ parties_of seats.now }
     requires own { All (λ s. s.seat.table ≡ seats.now) passes.items }
     requires rest { All Rests passes.items }
     requires empty { tickets.old.items ≡ [] }
@@ -110,35 +124,17 @@ fn split(seats: &Seats, passes: Vec<DeskPass>, tickets: &mut Vec<BookPass>) -> G
     ensures got { length result.got ≡ sum_by (λ s. length s.seat.got) passes.items }
     ensures settled { All IsSettled passes.items }
 {
-    let mut gathering = None;
     for pass in passes {
         let (ticket, out) = pass.into_parts();
         tickets.push_reserved(ticket);
-        gathering = Some(taken_in(seats, gathering, out));
+        gathering = seats.gather(gathering, out);
     }
-    let Some(gathering) = gathering else {
-        unreachable!()
-    };
     gathering
-}
-
-// One more pass of the seats is taken in, or the first.
-fn taken_in(seats: &Seats, gathering: Option<Gathering>, out: Out) -> Gathering
-    requires table { IsTakenFrom seats.now gathering }
-    requires own { out.table ≡ seats.now }
-    ensures table { result.table ≡ seats.now }
-    ensures count { length result.numbers ≡ count_in gathering + 1 }
-    ensures got { length result.got ≡ length_in gathering + length out.got }
-{
-    match gathering {
-        None => Gathering::of(out),
-        Some(gathering) => seats.gather(gathering, out),
-    }
 }
 
 impl DeskPass {
     // The two passes of a party that has no seat.
-    fn into_parts(self) -> (BookPass, Out)
+    fn into_parts(self) -> (BookPass, SeatOut)
         requires { Rests self }
         ensures same { (result.0 ≡ self.ticket) × (result.1 ≡ self.seat) }
         ensures settled { IsSettled self }

@@ -6,17 +6,17 @@ ghost use Rattle.options_machine.specs.Own.{is_of_holding, is_of_queueing};
 ghost use Rattle.options_machine.specs.Run.{IsBelow};
 ghost use Rattle.options_machine.specs.Step.{set_asked};
 ghost use Rattle.counter.specs.Account.{Enters, Extends};
-ghost use Rattle.feature_desk.specs.Sitters.{account_of, held_at, IsOf};
+ghost use Rattle.desk_seats.specs.Passes.{held_at};
+ghost use Rattle.feature_desk.specs.Sitters.{account_of, IsOf};
 ghost use Rattle.feature_desk.specs.Sittings.{state_at};
 ghost use Rattle.stat_board.specs.Fronts.{IsSameBoard};
 
 use crate::passes::{Chair, DeskPass, DeskState, Noted};
 use counter::Asked;
 use desk_book::DeskBook;
-use kex_words::Entering;
+use desk_seats::DeskSeats;
 use lic_types::Client;
 use options_machine::{Kind, Request};
-use seat_names::Seats;
 use stat_board::BoardNote;
 use std::marker::Model;
 use std::sync::Wait;
@@ -27,7 +27,7 @@ use turn_lock::Turns;
 /// Contracts see it as a `DeskView`: the lock of its book, with the rule sets as its law, and its seats. It can't be dropped, since its book can't: [`Desk::close`] ends it.
 pub struct Desk {
     pub(crate) turns: Turns<DeskBook>,
-    pub(crate) seats: Seats,
+    pub(crate) seats: DeskSeats,
 }
 
 impl Model for Desk {
@@ -146,15 +146,7 @@ impl Noted {
         match &self.chair {
             Chair::Hold(hold) => Some(hold.seat()),
             Chair::Out(_) => None,
-            Chair::Entering(entering) => entering_seat(entering),
+            Chair::Entering(entering) => entering.seat(),
         }
     }
-}
-
-// Whoever is on its way has no seat.
-fn entering_seat(entering: &Entering) -> Option<u32>
-    ensures { result ≡ held_at entering.now.place }
-{
-    let _place = entering.place();
-    None
 }

@@ -3,18 +3,18 @@ ghost use Rattle.std.specs.Prelude.{◌≡◌, []};
 
 use counter::Asked;
 use desk_book::BookPass;
-use kex_words::{Entering, Hold, Out};
+use desk_seats::{SeatEntering, SeatHold, SeatOut};
 use std::marker::Model;
 
 // Where a party is at the seats.
 #[derive(Drop)]
 pub(crate) enum Chair {
     // At none.
-    Out(Out),
+    Out(SeatOut),
     // It holds one.
-    Hold(Hold),
+    Hold(SeatHold),
     // On its way to one.
-    Entering(Entering),
+    Entering(SeatEntering),
 }
 
 /// A party's pass of a desk, with the party's seat where it has one. One thread at a time has it.
@@ -41,7 +41,7 @@ impl Model for DeskPass {
 
 impl DeskPass {
     // The pass of a party that has asked nothing yet.
-    pub(crate) fn of(ticket: BookPass, out: Out) -> DeskPass
+    pub(crate) fn of(ticket: BookPass, out: SeatOut) -> DeskPass
         requires { (out.number ≡ ticket.number) × (ticket.mine ≡ []) × (out.got ≡ []) }
         ensures { result ≡ record { ticket = ticket; seat = out } }
     {

@@ -1,18 +1,18 @@
 //! How a seat is made to agree with an entry.
 ghost use Rattle.std.specs.Prelude.{◌≡◌, ◌||◌, true, false};
-ghost use Rattle.kex_words.specs.Passes.{IsOut};
-ghost use Rattle.seat_names.specs.Turns.{pass_in_turn};
+ghost use Rattle.desk_seats.specs.Passes.{IsOut};
+ghost use Rattle.desk_seats.specs.Turns.{pass_in_turn, Goes};
 ghost use Rattle.counter.specs.Account.{brings_seat};
 ghost use Rattle.feature_desk.specs.Sitters.{IsOf};
 ghost use Rattle.feature_desk.specs.Sittings.{is_entering, is_hold, pass_in, AreLow, Sits};
-ghost use Rattle.feature_desk.specs.Seatings.{Goes, GoesOn, IsAt, Keeps, MatchedAs, Matches, Starts, Steps};
+ghost use Rattle.feature_desk.specs.Seatings.{GoesOn, IsAt, Keeps, MatchedAs, Matches, Starts, Steps};
 ghost use Rattle.feature_desk.specs.Standing.{is_of_rereading};
 
 use crate::desk::Desk;
 use crate::passes::{Chair, DeskPass, Noted, Seating};
 use counter::Asked;
+use desk_seats::SeatTurn;
 use options_machine::Reply;
-use seat_names::Turn;
 use std::sync::Wait;
 
 impl Desk {
@@ -71,13 +71,13 @@ impl Desk {
             );
         }
         match self.stepped(chair) {
-            Turn::Again(entering) => Seating::Again(Noted {
+            SeatTurn::Again(entering) => Seating::Again(Noted {
                 ticket,
                 chair: Chair::Entering(entering),
                 queued,
                 asked,
             }),
-            Turn::Through(through) => {
+            SeatTurn::Through(through) => {
                 let hold = self.seats.name(through);
                 Seating::Matched(
                     DeskPass {
@@ -146,7 +146,7 @@ impl Desk {
     }
 
     // One step towards a seat: what is held is left, and the party begins to enter; or it takes its turn.
-    fn stepped(&self, chair: Chair) -> Turn
+    fn stepped(&self, chair: Chair) -> SeatTurn
         requires own { (pass_in chair).table ≡ self.now.seats }
         requires sits { Sits chair }
         ensures own { ((pass_in_turn result).table ≡ (pass_in chair).table) × ((pass_in_turn result).number ≡ (pass_in chair).number) }

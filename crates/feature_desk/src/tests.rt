@@ -1,5 +1,6 @@
 //! A desk in one thread and in several.
-ghost use Rattle.std.specs.Prelude.{◌≡◌, ◌≤◌, [], All, IfOk, length, vec_len, vec_capacity};
+ghost use Rattle.std.specs.Prelude.{◌≡◌, ◌+◌, ◌*◌, ◌<◌, ◌≤◌, min, [], All, IfOk, length, vec_len, vec_capacity};
+ghost use Rattle.options_machine.specs.Rules.{IsSound};
 ghost use Rattle.options_machine.specs.Run.{IsBelow};
 ghost use Rattle.options_machine.specs.Step.{set_asked};
 ghost use Rattle.feature_desk.specs.Closings.{AreClosable, IsKeeperOf, Rests};
@@ -30,16 +31,10 @@ fn client(user: &[u8]) -> Result<Client, Fail> {
     })
 }
 
-// A desk of so many licences and parties, by an options file.
-fn desk_of(
-    rt: &(impl Abort + Wait + AllocGlobal),
-    file: &[u8],
-    count: u32,
-    parties: u32,
-) -> Result<(Desk, Vec<DeskPass>, DeskKeeper), Fail>
-    requires { (1 ≤ count) × (2 ≤ parties) × (parties ≤ 256) }
-    ensures own { IfOk result (λ made. (vec_len made.1 ≡ parties) × (made.0.lock.id.parties ≡ parties) × All (λ p. IsOf p made.0) made.1.items) }
-    ensures keeper { IfOk result (λ made. IsKeeperOf made.2 made.0) }
+// The rules of so many licences, by an options file.
+fn rules_of(rt: &(impl Abort + AllocGlobal), file: &[u8], count: u32) -> Result<DeskRules, Fail>
+    ensures sound { IfOk result IsSound }
+    ensures count { IfOk result (λ rules. rules.count ≡ count) }
 {
     let alloc = rt.alloc();
     let pool = Pool {
@@ -54,10 +49,40 @@ fn desk_of(
     assert!(rt; file.len() < 1 << 32);
     let options = read_options(alloc, file)?;
     let rules = DeskRules::of(alloc, &options, &pool)?;
-    let net = chain(alloc, parties, count)?;
+    assert!(rt; rules.count() == count);
+    Ok(rules)
+}
+
+// A desk of so many licences and parties, by an options file.
+fn desk_of(
+    rt: &(impl Abort + Wait + AllocGlobal),
+    file: &[u8],
+    count: u32,
+    parties: u32,
+) -> Result<(Desk, Vec<DeskPass>, DeskKeeper), Fail>
+    requires { (1 ≤ count) × (2 ≤ parties) × (parties ≤ 256) }
+    ensures own { IfOk result (λ made. (vec_len made.1 ≡ parties) × (made.0.lock.id.parties ≡ parties) × All (λ p. IsOf p made.0) made.1.items) }
+    ensures keeper { IfOk result (λ made. IsKeeperOf made.2 made.0) }
+{
+    let rules = rules_of(rt, file, count)?;
+    let net = chain(rt.alloc(), parties, count)?;
     assert!(rt; net.parties() == parties);
-    assert!(rt; net.width() == rules.count().min(net.parties()));
-    Ok(Desk::make(rt, alloc, rules, net)?)
+    assert!(rt; net.width() == count.min(net.parties()));
+    Ok(Desk::make(rt, rt.alloc(), rules, net)?)
+}
+
+// A desk of so many licences and parties with no options, behind a gate.
+fn gated_desk_of(
+    rt: &(impl Abort + Wait + AllocGlobal),
+    count: u32,
+    parties: u32,
+) -> Result<(Desk, Vec<DeskPass>, DeskKeeper), Fail>
+    requires { (1 ≤ count) × (2 ≤ parties) × (2 * min count parties < parties) × (parties + min count parties ≤ 256) }
+    ensures own { IfOk result (λ made. (vec_len made.1 ≡ parties) × (made.0.lock.id.parties ≡ parties) × All (λ p. IsOf p made.0) made.1.items) }
+    ensures keeper { IfOk result (λ made. IsKeeperOf made.2 made.0) }
+{
+    let sets = vec![in rt.alloc(); rules_of(rt, b"", count)?]?;
+    Ok(Desk::make_gated(rt, rt.alloc(), sets, parties)?)
 }
 
 // One call of a party, at a moment.
@@ -129,13 +154,37 @@ fn come_and_go_all<R: Threads + Wait + Sync>(
     for_each_mut(rt, passes, 4, &coming);
 }
 
+// Each party comes and goes, and then the desk is closed.
+fn tally_of<R: Threads + Wait + Sync>(
+    rt: &R,
+    desk: Desk,
+    mut passes: Vec<DeskPass>,
+    keeper: DeskKeeper,
+    client: &Client,
+) -> DeskTally
+    requires count { vec_len passes ≡ desk.lock.id.parties }
+    requires own { All (λ p. IsOf p desk) passes.items }
+    requires keeper { IsKeeperOf keeper desk }
+{
+    come_and_go_all(rt, &desk, passes.as_mut_slice(), client);
+    desk.close(rt, passes, keeper)
+}
+
 #[test]
 fn four_threads_take_turns_at_two_seats(rt: HostRuntime) -> Result<(), Fail> {
     let ann = client(b"ann")?;
-    let (desk, mut passes, keeper) = desk_of(&rt, b"", 2, 4)?;
-    come_and_go_all(&rt, &desk, passes.as_mut_slice(), &ann);
-    let DeskTally { grants, uses, .. } = desk.close(&rt, passes, keeper);
+    let (desk, passes, keeper) = desk_of(&rt, b"", 2, 4)?;
+    let DeskTally { grants, uses, .. } = tally_of(&rt, desk, passes, keeper, &ann);
     assert_eq!(rt; (grants, uses), (200, 200));
+    Ok(())
+}
+
+#[test]
+fn eight_parties_take_turns_at_two_seats_behind_a_gate(rt: HostRuntime) -> Result<(), Fail> {
+    let ann = client(b"ann")?;
+    let (desk, passes, keeper) = gated_desk_of(&rt, 2, 8)?;
+    let DeskTally { grants, uses, .. } = tally_of(&rt, desk, passes, keeper, &ann);
+    assert_eq!(rt; (grants, uses), (400, 400));
     Ok(())
 }
 

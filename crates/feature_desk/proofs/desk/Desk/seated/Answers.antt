@@ -1,5 +1,5 @@
-use Rattle.std.proofs.Common.{◌++◌, refl, ◌||◌, Bool, ap, sym, None}
-use Rattle.seat_names.proofs.Leading.{leads_on}
+use Rattle.std.proofs.Common.{refl, ◌||◌, Bool, ap, sym, None}
+use Rattle.desk_seats.proofs.Goings as going
 use Rattle.feature_desk.proofs.Lasts.{last_of}
 use Rattle.feature_desk.proofs.desk.Desk.seated.Goals as goal
 
@@ -9,6 +9,4 @@ returns-then-brings-clause-sits g c =
     (record { place = t.place; last = last_of None _ _ _ t.got }, refl, ap (λ (b : Bool). b || c.args.held) (sym c.if-brings.true))
 
 pub returns-then-brings-clause-goes : goal.returns-then-brings-clause-goes
-returns-then-brings-clause-goes g c =
-    let v = c.stepped-turn.ensures.goes in let w = c.go_on.ensures.moved in
-    (v.0 ++ w.0, leads_on _ v.0 _ w.0 _ v.1 w.1)
+returns-then-brings-clause-goes g c = going.goes_on _ _ _ c.stepped-turn.ensures.goes c.go_on.ensures.goes

@@ -1,0 +1,5 @@
+pub mod Views
+pub mod Goings
+mod Lists
+mod Comes
+mod Gathers
