@@ -1,0 +1,5 @@
+pub mod Sets
+pub mod Ends
+pub mod Dealt
+pub mod Ended
+pub mod Gates

@@ -1,0 +1,3 @@
+pub mod Offices
+pub mod Dealing
+pub mod Rooms
