@@ -1,0 +1,5 @@
+mod Dealing
+mod Ending
+mod Joining
+mod Splitting
+mod Unserved

@@ -1,0 +1,4 @@
+pub mod Ends
+pub mod Gives
+pub mod Join
+pub mod Work
