@@ -1,16 +1,41 @@
 //! The floating licence daemon and its offline tools.
 #![tactic(auto)]
 
-use licence_tool::{tool, words_of};
+mod daemon;
+mod program;
+mod reading;
+mod serve_words;
+mod status;
+mod terms;
+
+use crate::program::licenced;
+use licence_tool::{Status, words_of, write_line};
 use outside::{RealFiles, RealSink};
 use std::env;
 use std::process::ExitCode;
+use unix_site::UnixSite;
 
 fn main(rt: HostRuntime) -> ExitCode {
     let words = words_of(rt.alloc(), env::args(&rt));
     let mut files = RealFiles::of(rt.alloc(), &rt);
     let mut out = RealSink::of(rt.stdout());
     let mut err = RealSink::of(rt.stderr());
-    let status = tool(rt.alloc(), &words, &mut files, &mut out, &mut err);
+    let Ok(mut site) = UnixSite::make(rt, rt.alloc()) else {
+        write_line(&mut err, b"no memory\n");
+        return ExitCode::from(Status::NoMemory.code());
+    };
+    let status = licenced(
+        &rt,
+        rt.alloc(),
+        &words,
+        &mut files,
+        &mut out,
+        &mut err,
+        &mut site,
+    );
+    site.close();
     ExitCode::from(status.code())
 }
+
+#[cfg(test)]
+mod tests;

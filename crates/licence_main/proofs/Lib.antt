@@ -1,0 +1,6 @@
+pub mod Completing
+pub mod Ending
+pub mod Hearing
+pub mod Ranging
+pub mod Reached
+pub mod ServeWords

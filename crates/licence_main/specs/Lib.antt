@@ -1,0 +1,6 @@
+pub mod Asked
+pub mod Daemon
+pub mod Ends
+pub mod Serve
+pub mod Status
+pub mod Terms
