@@ -1,0 +1,71 @@
+//! Clients that ask a server over a Unix socket: `ask PATH CLIENTS MILLISECONDS POOLS`. Each says HELLO, and then CHECKOUT and CHECKIN in turn, each once the line before was answered; client i asks for feature f followed by i modulo POOLS.
+//! Prints requests a second, and the middle, the 99th and the 99.9th percentile of the time to an answer in microseconds.
+use std::env::args;
+use std::io::{BufRead, BufReader, Write};
+use std::os::unix::net::UnixStream;
+use std::sync::atomic::{AtomicBool, Ordering};
+use std::sync::{Arc, Barrier};
+use std::thread;
+use std::time::{Duration, Instant};
+
+struct Client {
+    link: UnixStream,
+    lines: BufReader<UnixStream>,
+    line: Vec<u8>,
+}
+
+impl Client {
+    fn of(path: &str) -> Client {
+        let link = UnixStream::connect(path).expect("a server");
+        let lines = BufReader::new(link.try_clone().expect("a link"));
+        Client { link, lines, line: Vec::new() }
+    }
+
+    fn ask(&mut self, request: &[u8]) {
+        self.link.write_all(request).expect("a link that takes the request");
+        self.line.clear();
+        self.lines.read_until(b'\n', &mut self.line).expect("an answer");
+        assert!(self.line.ends_with(b"\n"), "the server closed the link");
+    }
+}
+
+fn work(path: &str, number: usize, pools: usize, start: &Barrier, is_over: &AtomicBool) -> Vec<u32> {
+    let mut client = Client::of(path);
+    client.ask(format!("HELLO u{number} h d p\n").as_bytes());
+    let feature = number % pools;
+    let requests = [format!("CHECKOUT f{feature} 1.0\n"), format!("CHECKIN f{feature}\n")];
+    let mut taken = Vec::with_capacity(1 << 20);
+    start.wait();
+    while !is_over.load(Ordering::Relaxed) {
+        for request in &requests {
+            let begun = Instant::now();
+            client.ask(request.as_bytes());
+            taken.push(begun.elapsed().as_nanos() as u32);
+        }
+    }
+    taken
+}
+
+fn main() {
+    let words: Vec<String> = args().skip(1).collect();
+    let [path, rest @ ..] = words.as_slice() else { panic!("a path") };
+    let numbers: Vec<usize> = rest.iter().map(|word| word.parse().expect("a number")).collect();
+    let [clients, milliseconds, pools] = numbers.as_slice() else { panic!("three numbers") };
+    let start = Arc::new(Barrier::new(clients + 1));
+    let is_over = Arc::new(AtomicBool::new(false));
+    let threads: Vec<_> = (0..*clients)
+        .map(|number| {
+            let (path, start, is_over, pools) = (path.clone(), start.clone(), is_over.clone(), *pools);
+            thread::spawn(move || work(&path, number, pools, &start, &is_over))
+        })
+        .collect();
+    start.wait();
+    let begun = Instant::now();
+    thread::sleep(Duration::from_millis(*milliseconds as u64));
+    is_over.store(true, Ordering::Relaxed);
+    let mut taken: Vec<u32> = threads.into_iter().flat_map(|it| it.join().expect("a client")).collect();
+    let seconds = begun.elapsed().as_secs_f64();
+    taken.sort_unstable();
+    let at = |part: f64| f64::from(taken[((taken.len() - 1) as f64 * part) as usize]) / 1000.0;
+    println!("{:.0} {:.1} {:.1} {:.1}", taken.len() as f64 / seconds, at(0.5), at(0.99), at(0.999));
+}
