@@ -1,7 +1,7 @@
 #!/bin/sh
-# Replays and checks each example with the built program, and audits its log where it has one, and compares what it writes with
-# the texts that stand beside it, `expected.replay`, `expected.check` and `expected.audit`; and looks that the README shows the
-# first example as it is.
+# Replays and checks each example with the built program, and audits and sums its log where it has one, and compares what it
+# writes with the texts that stand beside it, `expected.replay`, `expected.check`, `expected.audit` and `expected.usage`; and
+# looks that the README shows the first example as it is.
 top=$(cd "$(dirname "$0")/.." && pwd)
 program=${1:-$top/crates/licence_main/out/licence_main}
 wrong=0
@@ -22,7 +22,9 @@ for example in "$top"/examples/*/; do
     writes expected.replay replay "$@"
     writes expected.check check licence options
     shift 3
-    [ ! -e log ] || writes expected.audit audit licence options log "$@"
+    [ -e log ] || continue
+    writes expected.audit audit licence options log "$@"
+    writes expected.usage usage licence options log "$@"
 done
 
 cd "$top/examples/first" || exit 1

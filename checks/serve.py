@@ -1,0 +1,221 @@
+"""Runs the built program as a daemon, and looks at what sessions are told, at what is left where a client goes, and at how it ends."""
+
+import os
+import re
+import socket
+import sys
+import threading
+import time
+
+from daemon import Daemon, Session
+
+EDIT = "FEATURE edit acme 2.0 permanent {} SIGN=00AB\n"
+ANN, BOB, CY = "ann h1 d1 p1", "bob h2 d2 p2", "cy h3 d3 p3"
+
+faults = []
+
+
+def same(what, found, wanted):
+    if found != wanted:
+        faults.append(f"{what}: {found!r} and not {wanted!r}")
+
+
+def eventually(what, ask, wanted, seconds=5):
+    """Asks again until the answer is the wanted one."""
+    end = time.monotonic() + seconds
+    while (found := ask()) != wanted and time.monotonic() < end:
+        time.sleep(0.05)
+    same(what, found, wanted)
+
+
+def counts(session, feature="edit"):
+    """What STATUS tells, without its place."""
+    return session.ask(f"STATUS {feature}").rpartition(" #")[0]
+
+
+def ends_well(what, daemon):
+    """Shuts the daemon down: status 0, nothing on standard error, no socket left, and a log that is a run. Gives its output."""
+    status, out, err = daemon.stopped()
+    same(f"{what}: end", (status, err), (0, ""))
+    same(f"{what}: the socket file is left", os.path.exists(daemon.path), False)
+    audit = daemon.audited(out)
+    same(f"{what}: audit", (audit[0], audit[1].split(" ")[0]), (0, "YES"))
+    return out
+
+
+def a_whole_session(program):
+    """The session that the page on the protocol shows."""
+    page = open("docs/PROTOCOL.md").read().partition("## A whole session")[2]
+    talk = re.findall(r"^    ([<>]) (.*)$", page, re.MULTILINE)
+    with Daemon(program, EDIT.format(2)) as daemon:
+        same("a session: up", daemon.is_up(), True)
+        with daemon.session() as session:
+            for mark, line in talk:
+                if mark == ">":
+                    session.send(line + "\n")
+                else:
+                    same("a session", re.sub(r"^WELCOME \d+$", "WELCOME 0", session.line()), line)
+            same("a session: closed at its end", session.line(), None)
+        ends_well("a session", daemon)
+    same("a session: lines on the page", len(talk) > 10, True)
+
+
+def the_log_and_the_tallies(program):
+    with Daemon(program, EDIT.format(2) + "FEATURE draw acme 1.0 permanent 1 SIGN=01CD\n", sessions=2) as daemon:
+        daemon.is_up()
+        with daemon.session(ANN) as session:
+            same("a log: granted", session.ask("CHECKOUT edit 1.0"), "GRANTED SEAT 0 OPEN #0")
+            session.ask("CHECKIN edit")
+        out = ends_well("a log", daemon)
+    lines = [re.sub(r"(ENTRY 0 #\d) \d+ \d+ ", r"\1 MOMENT PARTY ", line) for line in out.splitlines()]
+    same("a log", lines, [
+        "ENTRY 0 #0 MOMENT PARTY ann h1 d1 p1 CHECKOUT GRANTED OPEN",
+        "ENTRY 0 #1 MOMENT PARTY ann h1 d1 p1 CHECKIN RETURNED",
+        "LOG 0 ENTRIES 2 WHOLE",
+        "LOG 1 ENTRIES 0 WHOLE",
+        "TALLY 0 CALLS 2 GRANTS 1 CARD USES 1",
+        "TALLY 1 CALLS 0 GRANTS 0 CARD USES 0",
+    ])
+
+
+def seats_and_denials(program):
+    """Seats differ, a line of the options file denies, and who goes without a word gives the seat back."""
+    with Daemon(program, EDIT.format(2), "EXCLUDE edit USER cy\n") as daemon:
+        daemon.is_up()
+        with daemon.session(ANN) as ann, daemon.session(BOB) as bob, daemon.session(CY) as cy:
+            replies = [it.ask("CHECKOUT edit 1.0") for it in (ann, bob, cy)]
+            same("seats", replies, ["GRANTED SEAT 0 OPEN #0", "GRANTED SEAT 1 OPEN #1", "DENIED LINE 1 #2"])
+            ann.send("BEAT ed")
+            ann.close()
+            eventually("who goes in mid-line", lambda: counts(cy), "COUNTS HELD 1 LINGERING 0 OPEN 1 OF 2 OWN 0")
+            bob.send("x" * 1025)
+            same("a long line has no reply", bob.line(), None)
+            eventually("who sends a long line", lambda: counts(cy), "COUNTS HELD 0 LINGERING 0 OPEN 0 OF 2 OWN 0")
+        ends_well("seats", daemon)
+
+
+def more_clients_than_sessions(program):
+    """Who finds no session free waits, and is served when one is."""
+    with Daemon(program, EDIT.format(2), sessions=2) as daemon:
+        daemon.is_up()
+        first = [daemon.session(ANN), daemon.session(BOB)]
+        waiting = [Session(daemon.path) for _ in range(10)]
+        for session in waiting:
+            session.send(f"HELLO {CY}\nQUIT\n")
+        time.sleep(0.2)
+        for session in first:
+            same("a full house: still served", session.ask("CHECKOUT edit 1.0").split(" ")[0], "GRANTED")
+            same("a full house: quit", session.ask("QUIT"), "BYE")
+        for session in waiting:
+            same("who waited for a session", [session.line().split(" ")[0], session.line()], ["WELCOME", "BYE"])
+        ends_well("a full house", daemon)
+
+
+def a_queue(program):
+    with Daemon(program, EDIT.format(1)) as daemon:
+        daemon.is_up()
+        with daemon.session(ANN) as ann, daemon.session(BOB) as bob:
+            ann.ask("CHECKOUT edit 1.0")
+            same("a queue: waits", bob.ask("QUEUE edit 1.0"), "QUEUED 1 #1")
+            same("a queue: still waits", bob.ask("BEAT edit"), "QUEUED 1 #2")
+            ann.ask("CHECKIN edit")
+            same("a queue: served", bob.ask("BEAT edit"), "GRANTED SEAT 0 OPEN #4")
+        ends_well("a queue", daemon)
+
+
+def rule_sets(program):
+    with Daemon(program, EDIT.format(2), more=["EXCLUDE edit USER ann\n"]) as daemon:
+        daemon.is_up()
+        with daemon.session(ANN) as ann, daemon.session(BOB) as bob:
+            replies = [ann.ask("CHECKOUT edit 1.0"), bob.ask("REREAD 1"), ann.ask("CHECKIN edit"), ann.ask("CHECKOUT edit 1.0"), bob.ask("REREAD 2")]
+            same("rule sets", replies, ["GRANTED SEAT 0 OPEN #0", "REREAD 1", "RETURNED #2", "DENIED LINE 1 #3", "NORULES 2"])
+        ends_well("rule sets", daemon)
+
+
+def one_path(program):
+    """A second daemon doesn't take a socket that is served; a socket that nobody serves any more is replaced; another file is left."""
+    with Daemon(program, EDIT.format(1)) as first:
+        first.is_up()
+        with Daemon(program, EDIT.format(1), folder=first.folder) as second:
+            same("a socket that is served", second.ended(), (9, "", "site fault\n"))
+        with first.session(ANN) as session:
+            same("the first daemon goes on", session.ask("CHECKOUT edit 1.0"), "GRANTED SEAT 0 OPEN #0")
+        first.kill()
+        same("a daemon that is killed leaves its socket", os.path.exists(first.path), True)
+        with Daemon(program, EDIT.format(1), folder=first.folder) as third:
+            same("a socket that nobody serves", third.is_up(), True)
+            ends_well("the third daemon", third)
+        with open(first.path, "w") as file:
+            file.write("not a socket\n")
+        with Daemon(program, EDIT.format(1), folder=first.folder) as fourth:
+            same("a file that is no socket", fourth.ended(), (9, "", "site fault\n"))
+        same("the file that is no socket", open(first.path).read(), "not a socket\n")
+
+
+def others_are_not_held_up(program):
+    """A client that sends a byte now and then, one that never reads, and one that floods hold up neither the others nor the end."""
+    with Daemon(program, EDIT.format(2), sessions=6) as daemon:
+        daemon.is_up()
+        slow, silent, flood = (daemon.session(client) for client in (ANN, BOB, CY))
+        with slow, silent, flood, daemon.session(CY) as other:
+            slow.send("CHECK")
+            silent.send("STATUS edit\n" * 200)
+
+            def pour():
+                try:
+                    flood.send("STATUS edit\n" * 100_000)
+                except OSError:
+                    pass
+
+            pouring = threading.Thread(target=pour, daemon=True)
+            pouring.start()
+            time.sleep(0.5)
+            begun = time.monotonic()
+            for _ in range(100):
+                other.ask("LOOK edit")
+            same("others are served meanwhile", time.monotonic() - begun < 5, True)
+            slow.send("OUT edit 1.0\n")
+            same("a slow line is answered", slow.line().split(" ")[0], "GRANTED")
+            other.send("LOOK edit\n" * 5000)
+            same("many lines at once", {other.line().split(" ")[0] for _ in range(5000)}, {"NOTHELD"})
+            slow.send("CHECKIN ed")
+            status, out, err = daemon.stopped()
+            same("the end is not held up", (status, err), (0, ""))
+            same("the log is cut", "LOG 0 ENTRIES 4096 CUT" in out, True)
+            same("the cut log is a run", daemon.audited(out)[1].split(" ")[0], "YES")
+            pouring.join(5)
+
+
+def many_are_killed(program):
+    """Sessions that check out and go in mid-line, many at once: no seat is lost."""
+    with Daemon(program, EDIT.format(40), sessions=66) as daemon:
+        daemon.is_up()
+        for _ in range(3):
+            clients = [daemon.session(f"u{n} h d p") for n in range(64)]
+            for client in clients:
+                client.send("CHECKOUT edit 1.0\nBEAT edit\nCHECK")
+            for client in clients:
+                client.line()
+                client.close()
+        with daemon.session(ANN) as last:
+            eventually("after many were killed", lambda: counts(last), "COUNTS HELD 0 LINGERING 0 OPEN 0 OF 40 OWN 0")
+        ends_well("many are killed", daemon)
+
+
+def main():
+    program = os.path.abspath(sys.argv[1] if len(sys.argv) > 1 else "crates/licence_main/out/licence_main")
+    if not os.access(program, os.X_OK):
+        sys.exit(f"serve: {program} isn't built: rt ci builds it")
+    cases = (a_whole_session, the_log_and_the_tallies, seats_and_denials, more_clients_than_sessions, a_queue, rule_sets, one_path, others_are_not_held_up, many_are_killed)
+    for case in cases:
+        try:
+            case(program)
+        except (OSError, socket.timeout, AttributeError) as fault:
+            faults.append(f"{case.__name__}: {fault!r}")
+    for fault in faults:
+        print(f"serve: {fault}")
+    print(f"serve: {len(cases)} cases, {len(faults)} differences")
+    return 1 if faults else 0
+
+
+sys.exit(main())
