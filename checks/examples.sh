@@ -16,6 +16,7 @@ writes() {
 }
 
 for example in "$top"/examples/*/; do
+    [ -e "$example/licence" ] || continue
     cd "$example" || exit 1
     set -- licence options script
     [ ! -e more ] || set -- "$@" more
