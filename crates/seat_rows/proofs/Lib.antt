@@ -1,0 +1,4 @@
+pub mod Rows
+pub mod Moments
+pub mod Kept
+pub mod Seats

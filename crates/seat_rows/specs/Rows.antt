@@ -1,0 +1,36 @@
+-- How the seats are kept.
+use Rattle.std.specs.Prelude.{◌≡◌, ℕ, ◌≤◌, Bool, true, ◌&&◌, ◌==◌, suc, List, [], ◌∷◌, Option, None, Some, length, slice_index_or}
+use Rattle.std.specs.Option.{option_map}
+use Rattle.linger_clock.specs.Deadlines.{Deadlines, IsClock, until_of}
+use Rattle.options_machine.specs.declared.rows.Holder.{Holder}
+use Rattle.seat_rows.specs.Seats.{SeatList}
+
+-- the holders in rows, one after another
+abbrev pub holders_in : List (Option Holder) → List Holder
+holders_in [] = []
+holders_in (None ∷ rows) = holders_in rows
+holders_in (Some h ∷ rows) = h ∷ holders_in rows
+
+-- whether each holder stands in the row of its party, where the first row is of this one
+abbrev pub are_rows_from : ℕ → List (Option Holder) → Bool
+are_rows_from first [] = true
+are_rows_from first (None ∷ rows) = are_rows_from (suc first) rows
+are_rows_from first (Some h ∷ rows) = h.party == first && are_rows_from (suc first) rows
+
+-- what is seen of rows
+abbrev pub seat_list : List (Option Holder) → SeatList
+seat_list rows = record { parties = length rows; holders = holders_in rows }
+
+-- the beat of a seat, if there is one
+abbrev pub beat_in : Option Holder → Option ℕ
+beat_in o = option_map (λ (h : Holder). h.beat) o
+
+-- each holder stands in the row of its party, and their number is kept; each beat stands in the clock under its party, and nothing else does
+pub record AreKept (rows : List (Option Holder)) (held : ℕ) (beats : Deadlines) : Type 0 where
+  pub in_place : are_rows_from 0 rows ≡ true
+  pub few : length rows ≤ 256
+  pub number : held ≡ length (holders_in rows)
+  pub waits : (party : ℕ) → until_of party beats.pairs ≡ beat_in (slice_index_or rows party None)
+  pub clock : IsClock beats
+  pub as_many : length beats.pairs ≡ length (holders_in rows)
+  pub room : beats.room ≡ length rows

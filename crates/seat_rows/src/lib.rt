@@ -1,0 +1,158 @@
+//! The seats of a pool by rows: which party has one, and whose goes because the party was not heard.
+//!
+//! Each party has a row, which holds its seat, and the beats of all seats stand in a clock. So no call goes through the holders:
+//! each costs the same whatever their number, but for the clock, whose cost grows by a logarithm. All memory is taken when the
+//! rows are made.
+#![tactic(auto)]
+
+ghost use Rattle.std.specs.Prelude.{◌≡◌, ◌+◌, ◌==◌, ◌<◌, ◌≤◌, [], None, Some, Bool, if◌then◌else◌, IfNone, IfOk, IfSome, count_by, filter, find, length, map, not};
+ghost use Rattle.options_machine.specs.declared.rows.Holder.{Holder};
+ghost use Rattle.options_machine.specs.State.{is_holder};
+ghost use Rattle.options_machine.specs.Settle.{with_holder};
+ghost use Rattle.options_machine.specs.Apply.{told_if};
+ghost use Rattle.seat_rows.specs.Seats.{IsSeatList, charged_if, is_heard};
+
+mod beats;
+#[cfg(test)]
+mod tests;
+
+use beats::{add_beat, drop_beat, move_beat};
+use linger_clock::Clock;
+pub use no_memory::NoMemory;
+use options_machine::{Charge, Holder};
+use std::alloc::Global;
+use std::marker::Model;
+
+/// The seats that parties hold. A clause sees the number of parties, and the holders in order of party.
+#[derive(Drop)]
+pub struct SeatRows {
+    // The seat of each party, by its number.
+    rows: Vec<Option<Holder>>,
+    held: u32,
+    // The beat of each holder, under its party. It isn't the end of a timeout, so a new timeout changes nothing here.
+    beats: Clock,
+}
+
+impl Model for SeatRows {
+    ghost use Rattle.seat_rows.specs.Seats.{SeatList};
+    ghost use Rattle.seat_rows.specs.Rows.{AreKept, seat_list};
+
+    ghost Value = { SeatList };
+
+    ghost view = { λ s. seat_list s.rows.items };
+
+    ghost invariant = { λ s. AreKept s.rows.items s.held s.beats };
+}
+
+impl SeatRows {
+    /// Rows for this many parties, none of which has a seat yet. All memory is taken here, and no other call takes any.
+    /// `NoMemory` comes where there was too little.
+    pub fn make(alloc: Global, parties: u32) -> Result<Self, NoMemory>
+        requires { parties ≤ 256 }
+        ensures { IfOk result (λ seats. seats ≡ record { parties = parties; holders = [] }) }
+    {
+        let rows = vec![in alloc; None; parties as usize]?;
+        let beats = Clock::make(alloc, parties)?;
+        Ok(SeatRows {
+            rows,
+            held: 0,
+            beats,
+        })
+    }
+
+    /// For how many parties there are rows. Their numbers are those below it.
+    pub fn parties(&self) -> u32
+        ensures count { result ≡ self.now.parties }
+        ensures kept { IsSeatList self.now }
+    {
+        self.rows.len() as u32
+    }
+
+    /// How many parties have a seat.
+    pub fn len(&self) -> u32
+        ensures { result ≡ length self.now.holders }
+    {
+        self.held
+    }
+
+    /// Whether no party has a seat.
+    pub fn is_empty(&self) -> bool
+        ensures { result ≡ (length self.now.holders == 0) }
+    {
+        self.held == 0
+    }
+
+    /// The seat of a party; `None` where it has none.
+    pub fn get(&self, party: u32) -> Option<Holder>
+        requires { party < self.now.parties }
+        ensures seat { result ≡ find (is_holder party) self.now.holders }
+        ensures kept { IsSeatList self.now }
+    {
+        self.rows[party as usize]
+    }
+
+    /// Gives a party that has none this seat.
+    pub fn put(&mut self, holder: &Holder)
+        requires party { holder.now.party < self.old.parties }
+        requires none { find (is_holder holder.now.party) self.old.holders ≡ None }
+        ensures { self.new ≡ record self.old { holders = with_holder holder.now self.old.holders } }
+    {
+        self.rows[holder.party as usize] = Some(*holder);
+        self.held += 1;
+        add_beat(&mut self.beats, holder.party, holder.beat);
+    }
+
+    /// Takes the party's seat away, if it has one.
+    pub fn take(&mut self, party: u32)
+        requires { party < self.old.parties }
+        ensures { self.new ≡ record self.old { holders = filter (λ h. not (is_holder party h)) self.old.holders } }
+    {
+        if self.rows[party as usize].is_some() {
+            self.rows[party as usize] = None;
+            self.held -= 1;
+            drop_beat(&mut self.beats, party);
+        }
+    }
+
+    /// Tells the party of its seat, or hears it, at the moment `now`, in seconds since 1970-01-01 UTC. Nothing changes where it
+    /// has no seat.
+    pub fn tell(&mut self, party: u32, now: u64)
+        requires { party < self.old.parties }
+        ensures { self.new ≡ record self.old { holders = map (λ h. told_if (is_holder party h) now h) self.old.holders } }
+    {
+        if let Some(holder) = &mut self.rows[party as usize] {
+            holder.told = true;
+            holder.beat = now;
+            move_beat(&mut self.beats, party, now);
+        }
+    }
+
+    /// Charges the party's seat anew. Nothing changes where it has none.
+    pub fn set_charge(&mut self, party: u32, charge: Charge)
+        requires { party < self.old.parties }
+        ensures { self.new ≡ record self.old { holders = map (λ h. charged_if (is_holder party h) charge h) self.old.holders } }
+    {
+        if let Some(holder) = &mut self.rows[party as usize] {
+            holder.charge = charge;
+        }
+    }
+
+    /// Takes away the seat of one party that was not heard after the moment `over`, in seconds since 1970-01-01 UTC, and gives it;
+    /// `None` where every holder was heard after it, and then nothing has changed.
+    pub fn let_one_go(&mut self, over: u64) -> Option<Holder>
+        ensures seat { IfSome result (λ h. find (is_holder h.party) self.old.holders ≡ Some h) }
+        ensures silent { IfSome result (λ h. h.beat ≤ over) }
+        ensures gone { IfSome result (λ h. self.new ≡ record self.old { holders = filter (λ g. not (is_holder h.party g)) self.old.holders }) }
+        ensures fewer { IfSome result (λ _. length self.new.holders + 1 ≡ length self.old.holders) }
+        ensures counts { (test : Holder → Bool) → IfSome result (λ h. count_by test self.new.holders + (if test h then 1 else 0) ≡ count_by test self.old.holders) }
+        ensures stay { filter (is_heard over) self.new.holders ≡ filter (is_heard over) self.old.holders }
+        ensures none { IfNone result (self.new ≡ self.old) }
+        ensures heard { IfNone result (filter (is_heard over) self.old.holders ≡ self.old.holders) }
+    {
+        let party = self.beats.settle(over)? as usize;
+        let gone = self.rows[party];
+        self.rows[party] = None;
+        self.held -= 1;
+        gone
+    }
+}
