@@ -1,0 +1,3 @@
+pub mod Loops
+pub mod Counted
+pub mod Effects
