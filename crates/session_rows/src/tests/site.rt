@@ -10,7 +10,7 @@ use crate::{LoggedBook, TurnCounter};
 use feature_lines::Pool;
 use lic_types::{Client, Expiry, Name, Version};
 use office_view::OfficeView;
-use options_machine::{Entry, Kind, Reply, Request};
+use options_machine::{Entry, Kind, Request};
 use options_text::read_options;
 use policy::{DeskRules, PlainBook, are_sets};
 use session::{Buffers, SessionEnd, serve_session};
@@ -196,21 +196,20 @@ impl Site {
         })
     }
 
-    /// One request of the second party, at moment 0.
-    pub(crate) fn ask_other(&mut self, rt: &impl Wait, client: &Client, kind: Kind) -> Reply
+    /// One request of the second party at moment 0, where it asks anything.
+    pub(crate) fn ask_other(&mut self, rt: &impl Wait, client: &Client, kind: Kind, asks: bool)
         requires manned { IsManned self.old.counters.items self.old.other self.old.office }
         requires fits { set_asked kind ≡ None }
         ensures { IsManned self.new.counters.items self.new.other self.new.office }
     {
-        let request = Request {
-            party: 1,
-            client: *client,
-            kind,
-        };
-        self.office
-            .desk(0)
-            .ask(rt, &mut self.other, &request, 0)
-            .answer
+        if asks {
+            let request = Request {
+                party: 1,
+                client: *client,
+                kind,
+            };
+            self.office.desk(0).ask(rt, &mut self.other, &request, 0);
+        }
     }
 
     /// Closes the desk, and gives its entries.

@@ -1,0 +1,13 @@
+use Rattle.std.proofs.Common.{◌∙◌, ◌<◌, List, ap, get_or, length, subst, sym, arith}
+use Rattle.std.proofs.lemmas.List.{length-map}
+use Rattle.feature_lines.specs.declared.pool.Pool.{Pool}
+use Rattle.policy.specs.Pools.{rules_of}
+use Rattle.office_rows.proofs.Readying.{the_first}
+use Rattle.office_rows.proofs.tests.office_of.Goals as goal
+
+pub returns-clause-sets : goal.returns-clause-sets
+returns-clause-sets g c = λ j d l.
+    let view = c.in_ok-make_many.ensures.view in
+    let m : j < length c.in_ok-licence.licence.pools = subst (λ (pools : List Pool). j < length pools) view.0 l in
+    let pool = the_first c.in_ok-licence.licence.pools (omega (arith, m)) in
+    ap length (c.in_ok-make_many.ensures.desks j pool d m).rules ∙ length-map c.as_slice.result.now (rules_of (get_or c.in_ok-licence.licence.pools j pool)) ∙ sym view.1
