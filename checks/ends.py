@@ -1,4 +1,5 @@
-"""Runs the built program on each case of checks/ends.cases, and compares its exit status and what it writes.
+"""Runs the built program on each case of checks/ends.cases, and compares its exit status and what it writes. Another program may
+be named, and behind it another file of cases, such as checks/lint.cases.
 
 A case begins with a line `case: NAME`, and then has lines `FIELD: VALUE`:
 
@@ -20,7 +21,7 @@ import sys
 import tempfile
 import threading
 
-CASES = "checks/ends.cases"
+CASES = sys.argv[2] if len(sys.argv) > 2 else "checks/ends.cases"
 WANTED = ("words", "out", "err", "status", "stdout", "stderr")
 SECONDS = 10
 
@@ -153,7 +154,7 @@ def main():
         for fault in faults(program, fields):
             print(f"ends: {name}: {fault}")
             wrong += 1
-    for fault in cut(program, example):
+    for fault in cut(program, example) if CASES == "checks/ends.cases" else ():
         print(f"ends: {fault}")
         wrong += 1
     print(f"ends: {count} cases, {wrong} differences")

@@ -1,0 +1,5 @@
+pub mod Asking
+pub mod Completing
+pub mod Hearing
+pub mod Linting
+pub mod Matching

@@ -1,0 +1,5 @@
+pub mod Asked
+pub mod Days
+pub mod Lint
+pub mod Status
+pub mod Words
