@@ -110,4 +110,5 @@ def main():
     larger_sites(program, peers)
 
 
-main()
+if __name__ == "__main__":
+    main()
