@@ -1,0 +1,4 @@
+pub mod Beats
+pub mod Charges
+pub mod Books
+pub mod Parts
