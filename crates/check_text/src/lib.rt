@@ -33,6 +33,3 @@ pub fn check_text(alloc: Global, licence: &Licence, options: &Options) -> Result
     text.extend_from_slice(canonical.as_slice())?;
     Ok(text)
 }
-
-#[cfg(test)]
-mod tests;

@@ -14,8 +14,6 @@ mod gathering;
 mod making;
 mod passes;
 mod seats;
-#[cfg(test)]
-mod tests;
 mod turns;
 mod waiting;
 

@@ -16,6 +16,3 @@ pub use lic_types::{Note, NoteKind};
 pub use licence::{Licence, read_licence};
 pub use pool::Pool;
 pub use route::{Found, find_pool};
-
-#[cfg(test)]
-mod tests;

@@ -12,8 +12,6 @@ mod laws;
 mod making;
 mod passes;
 mod steps;
-#[cfg(test)]
-mod tests;
 mod view;
 
 pub use gated::GatedSeats;

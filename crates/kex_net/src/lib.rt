@@ -16,6 +16,3 @@ pub use chains::chain;
 pub use gates::gated;
 pub use laws::{gates_are_short, trees_are_short};
 pub use trees::tree;
-
-#[cfg(test)]
-mod tests;

@@ -13,8 +13,6 @@ mod laws;
 mod laying;
 mod passes;
 mod table;
-#[cfg(test)]
-mod tests;
 mod view;
 mod words;
 

@@ -17,6 +17,3 @@ pub use name::{Name, NameFault};
 pub use no_memory::NoMemory;
 pub use note::{Note, NoteKind};
 pub use version::Version;
-
-#[cfg(test)]
-mod tests;

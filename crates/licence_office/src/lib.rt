@@ -9,8 +9,6 @@ mod closing;
 mod dealing;
 mod making;
 mod office;
-#[cfg(test)]
-mod tests;
 
 pub use closing::OfficeEnd;
 pub use office::{Office, OfficePass};

@@ -10,8 +10,6 @@ ghost use Rattle.std.specs.Option.{option_map};
 ghost use Rattle.linger_clock.specs.Deadlines.{is_due, until_of, without, placed, IsClock};
 
 mod spare;
-#[cfg(test)]
-mod tests;
 mod tree;
 
 pub use no_memory::NoMemory;

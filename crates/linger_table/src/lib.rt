@@ -9,8 +9,6 @@ mod gaps;
 mod marks;
 mod slots;
 mod table;
-#[cfg(test)]
-mod tests;
 
 pub use no_memory::NoMemory;
 pub use table::LingerTable;

@@ -21,6 +21,3 @@ pub use fault::AuditFault;
 pub use log::{Numbered, read_log};
 pub use sums::Sums;
 pub use users::UserSum;
-
-#[cfg(test)]
-mod tests;

@@ -3,6 +3,9 @@ ghost use Rattle.std.specs.Prelude.{◌≡◌, ◌<◌, All, IfOk, length, vec_l
 ghost use Rattle.licence_office.specs.Offices.{AreAt, AreDealt};
 ghost use Rattle.office_rows.specs.Ready.{HasSets, IsReady};
 
+mod daemons;
+mod offices;
+
 use feature_desk::Desk;
 use feature_lines::read_licence;
 use lic_types::Name;

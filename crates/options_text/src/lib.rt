@@ -19,6 +19,3 @@ pub use keyword::LogKeyword;
 pub use laws::{canonical_text_reads_back, canonical_text_stays};
 pub use lic_types::Group;
 pub use options::{Options, read_options, write_options};
-
-#[cfg(test)]
-mod tests;

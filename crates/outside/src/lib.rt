@@ -13,6 +13,3 @@ pub use files::{FileFault, Files};
 pub use memory::{MemFile, MemFiles, MemSink};
 pub use real::{RealFiles, RealSink, read_all, write_all};
 pub use sink::{Sink, WriteFailed};
-
-#[cfg(test)]
-mod tests;

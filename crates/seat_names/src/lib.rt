@@ -6,8 +6,6 @@
 #![tactic(auto)]
 
 mod seats;
-#[cfg(test)]
-mod tests;
 mod turns;
 
 pub use seats::Seats;

@@ -9,8 +9,6 @@ mod list;
 mod note;
 mod pass;
 mod rule;
-#[cfg(test)]
-mod tests;
 
 pub use board::Board;
 pub use counter::Glance;

@@ -8,8 +8,6 @@
 mod kept;
 pub mod sum;
 mod table;
-#[cfg(test)]
-mod tests;
 mod turns;
 mod view;
 

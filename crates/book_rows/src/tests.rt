@@ -1,0 +1,4 @@
+mod clocks;
+mod holders;
+mod lingering;
+mod rules;

@@ -1,0 +1,195 @@
+use linger_clock::{Clock, ClockFault, Deadline};
+use std::alloc::Global;
+use std::process::Abort;
+use std::test::Fail;
+
+// A call of a clock and the answer that it is to give.
+#[derive(Clone, Copy)]
+enum Call {
+    Add(u64, u64, Result<(), ClockFault>),
+    Remove(u64, Option<u64>),
+    Due(Option<u64>),
+    Settle(u64, Option<u64>),
+}
+
+fn answers(rt: &impl Abort, clock: &mut Clock, calls: &[Call]) {
+    for (i, call) in calls.iter().enumerate() {
+        match *call {
+            Call::Add(owner, until, answer) => {
+                assert_eq!(rt; clock.add(owner, until), answer, "call {i}")
+            }
+            Call::Remove(owner, answer) => {
+                assert_eq!(rt; clock.remove(owner), answer, "call {i}")
+            }
+            Call::Due(answer) => assert_eq!(rt; clock.due(), answer, "call {i}"),
+            Call::Settle(now, answer) => assert_eq!(rt; clock.settle(now), answer, "call {i}"),
+        }
+    }
+}
+
+#[test]
+fn two_fall_due_at_one_moment(rt: HostRuntime) -> Result<(), Fail> {
+    let mut clock = Clock::make(rt.alloc(), 2)?;
+    let calls = [
+        Call::Add(5, 30, Ok(())),
+        Call::Add(3, 30, Ok(())),
+        Call::Add(9, 1, Err(ClockFault::Full)),
+        Call::Settle(29, None),
+        Call::Settle(30, Some(3)),
+        Call::Settle(30, Some(5)),
+        Call::Settle(30, None),
+    ];
+    answers(&rt, &mut clock, &calls);
+    Ok(())
+}
+
+#[test]
+fn refusals_removals_and_the_ends_of_time(rt: HostRuntime) -> Result<(), Fail> {
+    let mut clock = Clock::make(rt.alloc(), 4)?;
+    let calls = [
+        // Nothing waits.
+        Call::Due(None),
+        Call::Remove(1, None),
+        Call::Settle(u64::MAX, None),
+        // An owner has one deadline, and the first stays.
+        Call::Add(1, 50, Ok(())),
+        Call::Add(1, 20, Err(ClockFault::Twice)),
+        Call::Due(Some(50)),
+        Call::Add(2, 0, Ok(())),
+        Call::Add(3, u64::MAX, Ok(())),
+        Call::Add(u64::MAX, 50, Ok(())),
+        // A full clock says so, also to an owner that it has.
+        Call::Add(1, 20, Err(ClockFault::Full)),
+        Call::Due(Some(0)),
+        // The least goes, one of the middle, one that isn't there.
+        Call::Remove(2, Some(0)),
+        Call::Due(Some(50)),
+        Call::Remove(2, None),
+        Call::Add(2, 60, Ok(())),
+        Call::Remove(u64::MAX, Some(50)),
+        Call::Due(Some(50)),
+        Call::Add(0, 50, Ok(())),
+        // Equal moments go by owner, and the last moment is one like any other.
+        Call::Settle(49, None),
+        Call::Settle(50, Some(0)),
+        Call::Settle(50, Some(1)),
+        Call::Settle(59, None),
+        Call::Due(Some(60)),
+        Call::Settle(u64::MAX - 1, Some(2)),
+        Call::Settle(u64::MAX - 1, None),
+        Call::Settle(u64::MAX, Some(3)),
+        Call::Due(None),
+        // At moment 0 a deadline of 0 is due.
+        Call::Add(7, 0, Ok(())),
+        Call::Settle(0, Some(7)),
+    ];
+    answers(&rt, &mut clock, &calls);
+    Ok(())
+}
+
+#[test]
+fn no_room_takes_no_deadline(rt: HostRuntime) -> Result<(), Fail> {
+    let mut clock = Clock::make(rt.alloc(), 0)?;
+    let calls = [
+        Call::Add(1, 1, Err(ClockFault::Full)),
+        Call::Due(None),
+        Call::Settle(1, None),
+        Call::Remove(1, None),
+    ];
+    answers(&rt, &mut clock, &calls);
+    Ok(())
+}
+
+// The deadlines in no order, as the simplest clock keeps them.
+#[derive(Drop)]
+struct Plain {
+    room: usize,
+    waiting: Vec<Deadline>,
+}
+
+impl Plain {
+    fn make(alloc: Global, room: usize) -> Self {
+        Plain {
+            room,
+            waiting: Vec::new(alloc),
+        }
+    }
+
+    fn until_of(&self, owner: u64) -> Option<u64> {
+        self.waiting
+            .iter()
+            .copied()
+            .find(|d| d.owner == owner)
+            .map(|d| d.until)
+    }
+
+    fn first(&self) -> Option<Deadline> {
+        let mut best: Option<Deadline> = None;
+        for d in &self.waiting {
+            best = match best {
+                Some(b) if (b.until, b.owner) < (d.until, d.owner) => Some(b),
+                _ => Some(*d),
+            };
+        }
+        best
+    }
+
+    fn add(&mut self, owner: u64, until: u64) -> Result<Result<(), ClockFault>, Fail> {
+        if self.waiting.len() == self.room {
+            return Ok(Err(ClockFault::Full));
+        }
+        if self.until_of(owner).is_some() {
+            return Ok(Err(ClockFault::Twice));
+        }
+        self.waiting.push(Deadline { owner, until })?;
+        Ok(Ok(()))
+    }
+
+    fn remove(&mut self, owner: u64) -> Option<u64> {
+        let until = self.until_of(owner);
+        self.waiting.retain(|d| d.owner != owner);
+        until
+    }
+
+    fn settle(&mut self, now: u64) -> Option<u64> {
+        let first = self.first()?;
+        if first.until > now {
+            return None;
+        }
+        self.waiting.retain(|d| d.owner != first.owner);
+        Some(first.owner)
+    }
+}
+
+// The next state of Knuth's 64-bit linear congruential generator (MMIX).
+fn next(state: u64) -> u64 {
+    state
+        .wrapping_mul(6364136223846793005)
+        .wrapping_add(1442695040888963407)
+}
+
+#[test]
+fn ten_thousand_calls_agree_with_a_plain_list(rt: HostRuntime) -> Result<(), Fail> {
+    let mut clock = Clock::make(rt.alloc(), 48)?;
+    let mut plain = Plain::make(rt.alloc(), 48);
+    let mut state = 1;
+    for i in 0..10_000u32 {
+        state = next(state);
+        let owner = (state >> 32) % 80;
+        let moment = (state >> 40) % 120;
+        match (state >> 56) % 8 {
+            0..=4 => {
+                let wanted = plain.add(owner, moment)?;
+                assert_eq!(rt; clock.add(owner, moment), wanted, "call {i}");
+            }
+            5 => assert_eq!(rt; clock.remove(owner), plain.remove(owner), "call {i}"),
+            _ => assert_eq!(rt; clock.settle(moment), plain.settle(moment), "call {i}"),
+        }
+        assert_eq!(rt;
+            clock.due(),
+            plain.first().map(|d| d.until),
+            "after call {i}"
+        );
+    }
+    Ok(())
+}

@@ -1,0 +1,4 @@
+mod boards;
+mod desks;
+mod locks;
+mod logs;

@@ -1,0 +1,245 @@
+//! The board of a desk with one seat, in one thread and in two.
+ghost use Rattle.std.specs.Prelude.{◌≡◌, ◌≤◌, true, [], vec_len, All, IfOk};
+ghost use Rattle.stat_board.specs.OneSeat.{one_seat, IsIdle};
+
+use lic_types::{Client, Name};
+use options_machine::{Charge, Entry, Kind, Reply, Request};
+use stat_board::{Board, BoardPass, Glance, NoMemory, Ruling};
+use std::alloc::Global;
+use std::sync::Wait;
+use std::test::Fail;
+use std::thread::{Threads, join_mut};
+
+// The desk has one seat.
+struct OneSeat;
+
+impl Ruling<()> for OneSeat {
+    ghost use Rattle.stat_board.specs.OneSeat.{one_seat};
+
+    ghost sets = { λ _. one_seat };
+}
+
+const OPENING: Glance = Glance {
+    front: 0,
+    held: 0,
+    lingering: 0,
+    taken: 0,
+    free: 1,
+    queued: 0,
+};
+
+// The board of a desk with one seat.
+fn opened<R: Wait>(rt: &R, alloc: Global, n: u32) -> Result<(Board, Vec<BoardPass>), NoMemory>
+    requires { (1 ≤ n) × (n ≤ 256) }
+    ensures sets { IfOk result (λ r. r.0.front.sets ≡ one_seat) }
+    ensures empty { IfOk result (λ r. r.0.front.list ≡ []) }
+    ensures count { IfOk result (λ r. vec_len r.1 ≡ n) }
+    ensures passes { IfOk result (λ r. All (λ p. p ≡ r.0.front) r.1.items) }
+{
+    Board::make::<R, (), OneSeat>(rt, alloc, &(), OPENING, n)
+}
+
+// Ann at host ann.
+fn ann() -> Result<Client, Fail> {
+    let name = Name::read(b"ann")?;
+    Ok(Client {
+        user: name,
+        host: name,
+        display: name,
+        project: name,
+    })
+}
+
+// What a party asks at moment 0, and the reply.
+fn entry(party: u32, client: &Client, kind: Kind, reply: Reply) -> Entry
+    ensures { result ≡ record { request = record { party = party; client = client.now; kind = kind }; moment = 0; reply = reply } }
+{
+    Entry {
+        request: Request {
+            party,
+            client: *client,
+            kind,
+        },
+        moment: 0,
+        reply,
+    }
+}
+
+// Party 0 takes the seat, and party 1 waits for it. What a pass reads after each.
+fn seat_and_wait<R: Wait>(
+    rt: &R,
+    board: &mut Board,
+    pass: &mut BoardPass,
+    client: &Client,
+) -> (Glance, Glance)
+    requires sets { board.old.front.sets ≡ one_seat }
+    requires empty { board.old.front.list ≡ [] }
+{
+    let granted = entry(0, client, Kind::Checkout, Reply::Granted(Charge::Open));
+    let one_held = Glance {
+        held: 1,
+        taken: 1,
+        ..OPENING
+    };
+    board.publish(rt, &granted, one_held);
+    let first = pass.glance();
+    let waits = entry(1, client, Kind::Queue, Reply::Queued(1));
+    let one_waits = Glance {
+        queued: 1,
+        ..one_held
+    };
+    board.publish(rt, &waits, one_waits);
+    (first, pass.glance())
+}
+
+#[test]
+fn a_pass_reads_what_was_published(rt: HostRuntime) -> Result<(), Fail> {
+    let client = ann()?;
+    let made = opened(&rt, rt.alloc(), 1);
+    assert!(rt; made.is_ok());
+    let Ok((mut board, mut passes)) = made else {
+        return Ok(());
+    };
+    let mut pass = passes.pop().unwrap();
+    let opening = pass.glance();
+    let (first, second) = seat_and_wait(&rt, &mut board, &mut pass, &client);
+    let live = board.is_live();
+    let last = board.note().glance();
+    board.end(&rt);
+    let numbers = |g: Glance| (g.front, g.held, g.lingering, g.taken, g.free, g.queued);
+    assert_eq!(rt; numbers(opening), (0, 0, 0, 0, 1, 0));
+    assert_eq!(rt; numbers(first), (1, 1, 0, 1, 1, 0));
+    assert_eq!(rt; numbers(second), (2, 1, 0, 1, 1, 1));
+    assert!(rt; live && last == second && pass.glance() == second);
+    Ok(())
+}
+
+// Publishes that party 0 looks for its seat, and has none.
+fn look<R: Wait>(rt: &R, client: &Client, board: &mut Board)
+    requires sets { board.old.front.sets ≡ one_seat }
+    requires idle { IsIdle board.old.front.list }
+    ensures sets { board.new.front.sets ≡ one_seat }
+    ensures idle { IsIdle board.new.front.list }
+    ensures board { board.new.front.board ≡ board.old.front.board }
+{
+    let looked = entry(0, client, Kind::Look, Reply::NotHeld);
+    board.publish(rt, &looked, OPENING);
+}
+
+// What the second pass knows after it heard a note of the first, which was read when one more entry was published, and after it heard its own old note.
+fn heard<R: Wait>(
+    rt: &R,
+    board: &mut Board,
+    mut passes: Vec<BoardPass>,
+    client: &Client,
+) -> (u64, u64, u64)
+    requires sets { board.old.front.sets ≡ one_seat }
+    requires empty { board.old.front.list ≡ [] }
+    requires count { vec_len passes ≡ 2 }
+    requires passes { All (λ p. p ≡ board.old.front) passes.items }
+{
+    let mut second = passes.pop().unwrap();
+    let mut first = passes.pop().unwrap();
+    let old = second.note();
+    look(rt, client, board);
+    let read = first.glance().front;
+    second.hear(&first.note());
+    let told = second.note().front();
+    second.hear(&old);
+    (read, told, second.note().front())
+}
+
+#[test]
+fn a_heard_note_is_kept(rt: HostRuntime) -> Result<(), Fail> {
+    let client = ann()?;
+    let made = opened(&rt, rt.alloc(), 2);
+    assert!(rt; made.is_ok());
+    let Ok((mut board, passes)) = made else {
+        return Ok(());
+    };
+    let fronts = heard(&rt, &mut board, passes, &client);
+    board.end(&rt);
+    assert_eq!(rt; fronts, (1, 1, 1));
+    Ok(())
+}
+
+// Publishes so many entries, and gives how many of them before the board was live no more.
+fn publish_many<R: Wait>(rt: &R, client: &Client, board: &mut Board, times: u64) -> u64
+    requires sets { board.old.front.sets ≡ one_seat }
+    requires idle { IsIdle board.old.front.list }
+{
+    let mut published = 0;
+    for _time in 0..times {
+        look(rt, client, board);
+        if board.is_live() {
+            published += 1;
+        }
+    }
+    published
+}
+
+// Reads so often, and tells whether a front fell, and the last.
+fn watch(pass: &mut BoardPass, times: u64) -> (bool, u64) {
+    let mut last = 0;
+    let mut fell = false;
+    for _time in 0..times {
+        let front = pass.glance().front;
+        fell = fell || front < last;
+        last = front;
+    }
+    (fell, last)
+}
+
+const MANY: u64 = 10_000;
+
+// One thread publishes so many entries, and another reads as often. How many were published, what the reader tells, and the front at the end.
+fn publish_and_watch<R: Threads + Wait + Sync>(
+    rt: &R,
+    mut board: Board,
+    mut pass: BoardPass,
+    client: Client,
+) -> (u64, (bool, u64), u64)
+    requires sets { board.front.sets ≡ one_seat }
+    requires idle { IsIdle board.front.list }
+{
+    let shared = &client;
+    let (published, watched) = join_mut(
+        rt,
+        &mut || publish_many(rt, shared, &mut board, MANY),
+        &mut || watch(&mut pass, MANY),
+    );
+    let end = pass.glance().front;
+    board.end(rt);
+    (published, watched, end)
+}
+
+#[test]
+fn fronts_never_fall_while_another_thread_publishes(rt: HostRuntime) -> Result<(), Fail> {
+    let client = ann()?;
+    let made = opened(&rt, rt.alloc(), 1);
+    assert!(rt; made.is_ok());
+    let Ok((board, mut passes)) = made else {
+        return Ok(());
+    };
+    let pass = passes.pop().unwrap();
+    let (published, (fell, last), end) = publish_and_watch(&rt, board, pass, client);
+    assert_eq!(rt; (published, fell, end), (MANY, false, MANY));
+    assert!(rt; last <= end);
+    Ok(())
+}
+
+// Where memory is refused on the way, the board ends there, and its last Glance stays.
+#[test]
+fn a_refused_append_ends_the_publishing(rt: HostRuntime) -> Result<(), Fail> {
+    let client = ann()?;
+    let Ok((mut board, mut passes)) = opened(&rt, rt.alloc(), 1) else {
+        return Ok(());
+    };
+    let mut pass = passes.pop().unwrap();
+    let published = publish_many(&rt, &client, &mut board, 5);
+    let live = board.is_live();
+    let last = pass.glance().front;
+    board.end(&rt);
+    assert_eq!(rt; (live, last), (published == 5, published));
+    Ok(())
+}

@@ -1,0 +1,360 @@
+ghost use Rattle.std.specs.Prelude.{◌≡◌};
+
+use audit_log::{
+    LogPush, LogTake, Logged, is_summary, log_queue, read_entry, write_entry, write_log,
+    write_tally,
+};
+use lic_text::lines;
+use lic_types::{Client, Name};
+use options_machine::{Charge, Entry, Kind, Reply, Request};
+use script_words::{ScriptFault, ScriptWord};
+use std::sync::Wait;
+use std::test::Fail;
+use std::thread::{Threads, join};
+
+/// An entry of a party, asked at a moment.
+fn entry_at(party: u32, moment: u64, kind: Kind, reply: Reply) -> Result<Entry, Fail> {
+    let client = Client {
+        user: Name::read(b"ann")?,
+        host: Name::read(b"h1")?,
+        display: Name::read(b"d1")?,
+        project: Name::read(b"p1")?,
+    };
+    Ok(Entry {
+        request: Request {
+            party,
+            client,
+            kind,
+        },
+        moment,
+        reply,
+    })
+}
+
+#[test]
+fn what_is_pushed_comes_out_in_order(rt: HostRuntime) -> Result<(), Fail> {
+    let (mut push, mut take) = log_queue(rt.alloc())?;
+    let first = entry_at(0, 0, Kind::Look, Reply::NotHeld)?;
+    let second = entry_at(1, 5, Kind::Checkout, Reply::Granted(Charge::Open))?;
+    assert!(rt; !take.take(&rt));
+    assert!(rt; push.push(&rt, &first));
+    assert!(rt; push.push(&rt, &second));
+    assert!(rt; take.take(&rt));
+    assert!(rt; take.taken() == [first].as_slice());
+    take.finish(&rt, push);
+    assert!(rt; take.into_entries().as_slice() == [first, second].as_slice());
+    Ok(())
+}
+
+/// Pushes an entry so many times, made at the moments 0, 1 and so on.
+fn push_often<R: Wait>(rt: &R, mut push: LogPush, entry: &Entry, times: u64) -> LogPush
+    ensures { result.queue ≡ push.queue }
+{
+    for moment in 0..times {
+        let entry = Entry {
+            request: entry.request,
+            moment,
+            reply: entry.reply,
+        };
+        push.push(rt, &entry);
+    }
+    push
+}
+
+#[test]
+fn entry_4097_is_not_pushed(rt: HostRuntime) -> Result<(), Fail> {
+    let (push, mut take) = log_queue(rt.alloc())?;
+    let entry = entry_at(0, 4096, Kind::Look, Reply::NotHeld)?;
+    let mut push = push_often(&rt, push, &entry, 4096);
+    assert!(rt; !push.push(&rt, &entry));
+    assert!(rt; take.take(&rt));
+    assert!(rt; !push.push(&rt, &entry));
+    take.finish(&rt, push);
+    assert_eq!(rt; take.taken().len(), 4096);
+    for (place, entry) in take.taken().iter().enumerate() {
+        assert_eq!(rt; entry.moment, place as u64);
+    }
+    Ok(())
+}
+
+/// Takes until so many entries were taken, or so many attempts were made.
+fn take_often<R: Wait>(rt: &R, mut take: LogTake, entries: usize, attempts: u64) -> LogTake
+    ensures { result.queue ≡ take.queue }
+{
+    for _ in 0..attempts {
+        if take.taken().len() >= entries {
+            break;
+        }
+        take.take(rt);
+    }
+    take
+}
+
+/// Pushes in one thread what another takes meanwhile, and takes what is left.
+fn pushed_and_taken<R: Threads + Wait + Sync>(
+    rt: &R,
+    push: LogPush,
+    take: LogTake,
+    entry: &Entry,
+    times: u64,
+) -> Vec<Entry>
+    requires { push.queue ≡ take.queue }
+{
+    let (push, take) = join(
+        rt,
+        move || -> LogPush
+            ensures { result.queue ≡ push.queue }
+        { push_often(rt, push, entry, times) },
+        move || -> LogTake
+            ensures { result.queue ≡ take.queue }
+        { take_often(rt, take, 1000, 100_000_000) },
+    );
+    let mut take = take;
+    take.finish(rt, push);
+    take.into_entries()
+}
+
+#[test]
+fn one_thread_takes_while_another_pushes(rt: HostRuntime) -> Result<(), Fail> {
+    let (push, take) = log_queue(rt.alloc())?;
+    let entry = entry_at(7, 9, Kind::Beat, Reply::Beaten)?;
+    let entries = pushed_and_taken(&rt, push, take, &entry, 2000);
+    assert_eq!(rt; entries.len(), 2000);
+    for (place, taken) in entries.iter().enumerate() {
+        assert_eq!(rt; (taken.moment, taken.request.party), (place as u64, 7));
+    }
+    Ok(())
+}
+
+/// Each reply with its words, of an entry at place 7 of pool 3.
+#[test]
+fn entries_are_written_and_read_back(rt: HostRuntime) -> Result<(), Fail> {
+    let counts = |own: bool, queued: bool| Reply::Counts {
+        held: 1,
+        lingering: 2,
+        taken: 3,
+        free: 4,
+        own,
+        queued,
+    };
+    let rows: [(Kind, Reply, &[u8]); 18] = [
+        (
+            Kind::Checkout,
+            Reply::Granted(Charge::Open),
+            b"CHECKOUT GRANTED OPEN",
+        ),
+        (
+            Kind::Checkout,
+            Reply::Granted(Charge::Reserve(u32::MAX)),
+            b"CHECKOUT GRANTED RESERVE 4294967295",
+        ),
+        (
+            Kind::Queue,
+            Reply::Retaken(Charge::Open),
+            b"QUEUE RETAKEN OPEN",
+        ),
+        (
+            Kind::Queue,
+            Reply::Retaken(Charge::Reserve(9)),
+            b"QUEUE RETAKEN RESERVE 9",
+        ),
+        (
+            Kind::Checkout,
+            Reply::Denied(12),
+            b"CHECKOUT DENIED LINE 12",
+        ),
+        (
+            Kind::Checkout,
+            Reply::NoSeat(2, 2),
+            b"CHECKOUT NOSEAT TAKEN 2 OF 2",
+        ),
+        (Kind::Checkout, Reply::AlreadyHeld, b"CHECKOUT ALREADYHELD"),
+        (Kind::Checkin, Reply::Returned, b"CHECKIN RETURNED"),
+        (
+            Kind::Quit,
+            Reply::Lingering(u64::MAX),
+            b"QUIT LINGERING UNTIL 18446744073709551615",
+        ),
+        (Kind::Look, Reply::NotHeld, b"LOOK NOTHELD"),
+        (Kind::Beat, Reply::Beaten, b"BEAT BEATEN"),
+        (Kind::Look, Reply::Held, b"LOOK HELD"),
+        (
+            Kind::Count,
+            counts(false, false),
+            b"COUNT COUNTS HELD 1 LINGERING 2 OPEN 3 OF 4 OWN 0",
+        ),
+        (
+            Kind::Count,
+            counts(true, false),
+            b"COUNT COUNTS HELD 1 LINGERING 2 OPEN 3 OF 4 OWN 1",
+        ),
+        (
+            Kind::Count,
+            counts(false, true),
+            b"COUNT COUNTS HELD 1 LINGERING 2 OPEN 3 OF 4 OWN 2",
+        ),
+        (Kind::Queue, Reply::Queued(0), b"QUEUE QUEUED 0"),
+        (Kind::Quit, Reply::Unqueued, b"QUIT UNQUEUED"),
+        (Kind::Reread(1), Reply::Reread(1), b"REREAD REREAD 1"),
+    ];
+    for (kind, reply, words) in rows {
+        let entry = entry_at(255, (1 << 40) - 1, kind, reply)?;
+        let mut room = [0u8; 640];
+        let len = write_entry(3, 7, &entry, &mut room);
+        let mut text = Vec::new(rt.alloc());
+        text.extend_from_slice(b"ENTRY 3 #7 1099511627775 255 ann h1 d1 p1 ")?;
+        text.extend_from_slice(words)?;
+        text.push(b'\n')?;
+        assert!(rt; &room[..len] == text.as_slice());
+        let found = lines(&room[..len]).next();
+        assert!(rt; found.is_some());
+        let Some(Ok(line)) = found else {
+            return Ok(());
+        };
+        let logged = Logged {
+            pool: 3,
+            place: 7,
+            entry,
+        };
+        assert!(rt; read_entry(&line) == Ok(logged));
+        assert!(rt; !is_summary(&line));
+    }
+    Ok(())
+}
+
+/// Each fault on the first line of a log, and behind a good line.
+#[test]
+fn lines_at_fault_are_named(rt: HostRuntime) -> Result<(), Fail> {
+    let rows: [(&[u8], ScriptWord); 24] = [
+        (b"LOG 0 ENTRIES 2 WHOLE", ScriptWord::UnknownWord),
+        (
+            b"entry 0 #0 0 0 a h d p LOOK NOTHELD",
+            ScriptWord::UnknownWord,
+        ),
+        (b"ENTRY x #0 0 0 a h d p LOOK", ScriptWord::WordCount),
+        (
+            b"ENTRY 4294967296 0 0 0 a h d p LOOK NOTHELD",
+            ScriptWord::BadNumber,
+        ),
+        (b"ENTRY 0 0 0 0 a h d p LOOK NOTHELD", ScriptWord::BadNumber),
+        (b"ENTRY 0 # 0 0 a h d p LOOK NOTHELD", ScriptWord::BadNumber),
+        (
+            b"ENTRY 0 #0 1099511627776 0 a h d p LOOK NOTHELD",
+            ScriptWord::BadNumber,
+        ),
+        (
+            b"ENTRY 0 #0 0 256 a h d p LOOK NOTHELD",
+            ScriptWord::BadNumber,
+        ),
+        (
+            b"ENTRY 0 #0 0 0 a\x01 h d p LOOK NOTHELD",
+            ScriptWord::BadName,
+        ),
+        (
+            b"ENTRY 0 #0 0 0 a h d\x01 p STATUS NOTHELD",
+            ScriptWord::BadName,
+        ),
+        (
+            b"ENTRY 0 #0 0 0 a h d p STATUS NOTHELD",
+            ScriptWord::UnknownWord,
+        ),
+        (
+            b"ENTRY 0 #0 0 0 a h d p LOOK notheld",
+            ScriptWord::UnknownWord,
+        ),
+        (
+            b"ENTRY 0 #0 0 0 a h d p LOOK NOTHELD NOTHELD",
+            ScriptWord::UnknownWord,
+        ),
+        (
+            b"ENTRY 0 #0 0 0 a h d p CHECKOUT GRANTED",
+            ScriptWord::UnknownWord,
+        ),
+        (
+            b"ENTRY 0 #0 0 0 a h d p CHECKOUT GRANTED RESERVE 01",
+            ScriptWord::UnknownWord,
+        ),
+        (
+            b"ENTRY 0 #0 0 0 a h d p CHECKOUT GRANTED RESERVE 4294967296",
+            ScriptWord::UnknownWord,
+        ),
+        (
+            b"ENTRY 0 #0 0 0 a h d p CHECKOUT GRANTED OPEN OPEN",
+            ScriptWord::UnknownWord,
+        ),
+        (
+            b"ENTRY 0 #0 0 0 a h d p CHECKOUT DENIED 1",
+            ScriptWord::UnknownWord,
+        ),
+        (
+            b"ENTRY 0 #0 0 0 a h d p CHECKOUT NOSEAT TAKEN 1 OF",
+            ScriptWord::UnknownWord,
+        ),
+        (
+            b"ENTRY 0 #0 0 0 a h d p COUNT COUNTS HELD 1 LINGERING 2 OPEN 3 OF 4 OWN 3",
+            ScriptWord::UnknownWord,
+        ),
+        (
+            b"ENTRY 0 #0 0 0 a h d p QUIT LINGERING UNTIL 18446744073709551616",
+            ScriptWord::UnknownWord,
+        ),
+        (
+            b"ENTRY 0 #0 0 0 a h d p QUEUE QUEUED +1",
+            ScriptWord::UnknownWord,
+        ),
+        (
+            b"ENTRY 0 #0 0 0 a h d p REREAD NOTHELD",
+            ScriptWord::UnknownWord,
+        ),
+        (
+            b"ENTRY 0 #0 0 0 a h d p REREAD REREAD",
+            ScriptWord::UnknownWord,
+        ),
+    ];
+    for (text, fault) in rows {
+        let found = lines(text).next();
+        assert!(rt; matches!(found, Some(Ok(_))));
+        if let Some(Ok(line)) = found {
+            assert_eq!(rt;
+                read_entry(&line).err(),
+                Some(ScriptFault { line: 1, fault })
+            );
+        }
+        let mut log = Vec::new(rt.alloc());
+        log.extend_from_slice(b"ENTRY 0 #0 0 0 a h d p LOOK NOTHELD\n")?;
+        log.extend_from_slice(text)?;
+        let log = log.as_slice();
+        assert!(rt; log.len() < 1000);
+        let mut both = lines(log);
+        let first = both.next();
+        assert!(rt; matches!(first, Some(Ok(_))));
+        if let Some(Ok(line)) = first {
+            assert!(rt; read_entry(&line).is_ok());
+        }
+        let second = both.next();
+        assert!(rt; matches!(second, Some(Ok(_))));
+        if let Some(Ok(line)) = second {
+            assert_eq!(rt;
+                read_entry(&line).err(),
+                Some(ScriptFault { line: 2, fault })
+            );
+        }
+    }
+    Ok(())
+}
+
+#[test]
+fn logs_and_tallies_are_summed_up(rt: HostRuntime) {
+    let mut room = [0u8; 640];
+    let len = write_log(0, 2, false, &mut room);
+    assert!(rt; &room[..len] == b"LOG 0 ENTRIES 2 WHOLE\n".as_slice());
+    let len = write_log(1, 4096, true, &mut room);
+    assert!(rt; &room[..len] == b"LOG 1 ENTRIES 4096 CUT\n".as_slice());
+    let len = write_tally(1, 4097, 0, 0, &mut room);
+    assert!(rt; &room[..len] == b"TALLY 1 CALLS 4097 GRANTS 0 CARD USES 0\n".as_slice());
+    let found = lines(&room[..len]).next();
+    assert!(rt; matches!(found, Some(Ok(_))));
+    if let Some(Ok(line)) = found {
+        assert!(rt; is_summary(&line));
+    }
+}

@@ -1,0 +1,5 @@
+mod gates;
+mod nets;
+mod seatings;
+mod seats;
+mod words;

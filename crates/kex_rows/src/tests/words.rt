@@ -1,0 +1,321 @@
+//! Rows of the listing by step calls.
+ghost use Rattle.std.specs.Prelude.{◌≡◌, ◌≤◌, [], IfOk, IfSome, vec_capacity};
+ghost use Rattle.kex_words.specs.Sorts.{pass_in_next, pass_in_back};
+
+use kex_core::{NoMemory, Place};
+use kex_net::chain;
+use kex_words::{Back, Entering, Hold, KexTable, Leaving, Next, Out};
+use std::alloc::Global;
+use std::sync::Wait;
+use std::test::Fail;
+use std::thread::{Threads, join};
+use std::time::Duration;
+
+// the access of a pass among the stages
+fn stage_step(table: &KexTable, e: Entering) -> Next
+    requires { e.table ≡ table.now }
+    ensures { (pass_in_next result).table ≡ table.now }
+{
+    match e.place() {
+        Place::Mark(_) => Next::Entering(table.mark(e)),
+        Place::Look(_) => table.look(e),
+        Place::Spin(_) => table.spin(e),
+        _ => table.dec(e),
+    }
+}
+
+// so many accesses on the way in, up to Named
+fn inward(table: &KexTable, mut next: Next, steps: u32) -> Next
+    requires { (pass_in_next next).table ≡ table.now }
+    ensures { (pass_in_next result).table ≡ table.now }
+{
+    for _step in 0..steps {
+        next = match next {
+            Next::Entering(e) => stage_step(table, e),
+            Next::Naming(n) => table.test_set(n),
+            named => named,
+        };
+    }
+    next
+}
+
+// the access of a pass that leaves
+fn leave_step(table: &KexTable, l: Leaving) -> Back
+    requires { l.table ≡ table.now }
+    ensures { (pass_in_back result).table ≡ table.now }
+{
+    match l.place() {
+        Place::Clearing(_) => table.clear(l),
+        Place::Inc(_) => Back::Leaving(table.inc(l)),
+        _ => table.unmark(l),
+    }
+}
+
+// so many accesses on the way out, up to Out
+fn outward(table: &KexTable, mut back: Back, steps: u32) -> Back
+    requires { (pass_in_back back).table ≡ table.now }
+    ensures { (pass_in_back result).table ≡ table.now }
+{
+    for _step in 0..steps {
+        back = match back {
+            Back::Leaving(l) => leave_step(table, l),
+            out => out,
+        };
+    }
+    back
+}
+
+// enters in so many accesses, with the card's among them
+fn hold(table: &KexTable, out: Out, steps: u32) -> Option<Hold>
+    requires { out.table ≡ table.now }
+    ensures { IfSome result (λ h. h.pass.table ≡ table.now) }
+{
+    match inward(table, table.begin(out), steps.saturating_sub(1)) {
+        Next::Named(n) => Some(table.card_out(n)),
+        _ => None,
+    }
+}
+
+// leaves in so many accesses, with the card's among them
+fn leave(table: &KexTable, hold: Hold, steps: u32) -> Option<Out>
+    requires { hold.pass.table ≡ table.now }
+    ensures { IfSome result (λ o. o.table ≡ table.now) }
+{
+    match outward(table, table.card_in(hold), steps.saturating_sub(1)) {
+        Back::Out(out) => Some(out),
+        _ => None,
+    }
+}
+
+// where a pass on its way in stands. Of Named it is told without its number
+fn place_in(next: &Next) -> Option<Place> {
+    match next {
+        Next::Entering(e) => Some(e.place()),
+        Next::Naming(n) => Some(n.place()),
+        Next::Named(_) => None,
+    }
+}
+
+// where a pass on its way out stands
+fn place_back(back: &Back) -> Place {
+    match back {
+        Back::Leaving(l) => l.place(),
+        Back::Out(_) => Place::Out,
+    }
+}
+
+// a table of chain(3, 2), with its passes 0, 1 and 2. It has one stage of capacity 2, one bit and
+// the numbers 0 and 1
+fn three(alloc: Global) -> Result<(KexTable, Out, Out, Out), NoMemory>
+    ensures { IfOk result (λ t. (t.1.table ≡ t.0) × (t.2.table ≡ t.0) × (t.3.table ≡ t.0)) }
+{
+    let net = chain(alloc, 3, 2)?;
+    let (table, mut passes) = KexTable::make(alloc, net)?;
+    let two = passes.pop().unwrap();
+    let one = passes.pop().unwrap();
+    let zero = passes.pop().unwrap();
+    Ok((table, zero, one, two))
+}
+
+// Parties 0 and 1 have passed, and party 2 finds no room. It naps once while it spins.
+fn full_stage<R: Wait>(rt: &R, table: &KexTable, two: Out) -> [Option<Place>; 5]
+    requires { two.table ≡ table.now }
+{
+    let two = table.begin(two);
+    let begun = place_in(&two);
+    let two = inward(table, two, 1);
+    let counted = place_in(&two);
+    let two = inward(table, two, 1);
+    let marked = place_in(&two);
+    let two = inward(table, two, 1);
+    let waiting = place_in(&two);
+    if let Next::Entering(e) = &two {
+        table.nap(rt, e, Duration::from_micros(50));
+    }
+    let two = inward(table, two, 1);
+    [begun, counted, marked, waiting, place_in(&two)]
+}
+
+#[test]
+fn two_pass_and_the_third_spins(rt: HostRuntime) -> Result<(), Fail> {
+    let (table, zero, one, two) = three(rt.alloc())?;
+    let zero = inward(&table, table.begin(zero), 1);
+    let one = inward(&table, table.begin(one), 1);
+    let places = full_stage(&rt, &table, two);
+    let expected = [
+        Place::Out,
+        Place::Mark(0),
+        Place::Look(0),
+        Place::Spin(0),
+        Place::Spin(0),
+    ];
+    assert_eq!(rt; places, expected.map(Some));
+    assert_eq!(rt;
+        [place_in(&zero), place_in(&one)],
+        [Some(Place::Naming(0)); 2]
+    );
+    Ok(())
+}
+
+// Parties 0 and 1 hold, and party 2 waits. Party 0 leaves up to its Inc: party 2 still waits.
+// Party 0 unmarks: party 2 passes.
+fn unmarking(table: &KexTable, zero: Hold, two: Out) -> ([Option<Place>; 3], [Place; 2])
+    requires zero { zero.pass.table ≡ table.now }
+    requires two { two.table ≡ table.now }
+{
+    let two = inward(table, table.begin(two), 3);
+    let waiting = place_in(&two);
+    let zero = outward(table, table.card_in(zero), 2);
+    let raised = place_back(&zero);
+    let two = inward(table, two, 1);
+    let still = place_in(&two);
+    let zero = outward(table, zero, 1);
+    let two = inward(table, two, 1);
+    (
+        [waiting, still, place_in(&two)],
+        [raised, place_back(&zero)],
+    )
+}
+
+#[test]
+fn a_waiter_passes_once_a_leaver_unmarks(rt: HostRuntime) -> Result<(), Fail> {
+    let (table, zero, one, two) = three(rt.alloc())?;
+    let zero = hold(&table, zero, 3).expect(&rt, "party 0 holds");
+    let one = hold(&table, one, 3).expect(&rt, "party 1 holds");
+    let seats = [(zero.number(), zero.seat()), (one.number(), one.seat())];
+    assert_eq!(rt; seats, [(0, 0), (1, 1)]);
+    let (waiter, leaver) = unmarking(&table, zero, two);
+    let expected = [Place::Spin(0), Place::Spin(0), Place::Naming(0)];
+    assert_eq!(rt; waiter, expected.map(Some));
+    assert_eq!(rt; leaver, [Place::Unmark(0), Place::Out]);
+    Ok(())
+}
+
+// Parties 0 and 1 hold, and party 2 stops before its Mark. Party 0 leaves wholly, comes again and
+// waits. Party 2's Mark lets it go, and then party 2 waits.
+fn late_mark(table: &KexTable, zero: Hold, two: Out) -> Option<[Option<Place>; 4]>
+    requires zero { zero.pass.table ≡ table.now }
+    requires two { two.table ≡ table.now }
+{
+    let two = inward(table, table.begin(two), 1);
+    let counted = place_in(&two);
+    let zero = leave(table, zero, 4)?;
+    let zero = inward(table, table.begin(zero), 4);
+    let waiting = place_in(&zero);
+    let two = inward(table, two, 1);
+    let zero = inward(table, zero, 1);
+    let two = inward(table, two, 2);
+    Some([counted, waiting, place_in(&zero), place_in(&two)])
+}
+
+#[test]
+fn a_late_mark_lets_the_waiter_go(rt: HostRuntime) -> Result<(), Fail> {
+    let (table, zero, one, two) = three(rt.alloc())?;
+    let zero = hold(&table, zero, 3).expect(&rt, "party 0 holds");
+    let one = hold(&table, one, 3).expect(&rt, "party 1 holds");
+    let expected = [
+        Place::Mark(0),
+        Place::Spin(0),
+        Place::Naming(0),
+        Place::Spin(0),
+    ];
+    assert_eq!(rt; late_mark(&table, zero, two), Some(expected.map(Some)));
+    assert_eq!(rt; one.seat(), 1);
+    Ok(())
+}
+
+// a table of chain(2, k), with its passes 0 and 1, and an empty list with room for them
+fn pair(alloc: Global, k: u32) -> Result<(KexTable, Vec<Out>, Out, Out), NoMemory>
+    requires { 1 ≤ k }
+    ensures { IfOk result (λ t. (t.0.net.parties ≡ 2) × (t.1.items ≡ []) × (2 ≤ vec_capacity t.1) × (t.2.table ≡ t.0) × (t.3.table ≡ t.0)) }
+{
+    let net = chain(alloc, 2, k)?;
+    let (table, mut passes) = KexTable::make(alloc, net)?;
+    let one = passes.pop().unwrap();
+    let zero = passes.pop().unwrap();
+    Ok((table, passes, zero, one))
+}
+
+// the uses of all cards together, once both passes are back
+fn uses_of(table: KexTable, mut passes: Vec<Out>, zero: Out, one: Out) -> u64
+    requires parties { table.net.parties ≡ 2 }
+    requires room { (passes.items ≡ []) × (2 ≤ vec_capacity passes) }
+    requires zero { zero.table ≡ table }
+    requires one { one.table ≡ table }
+{
+    passes.push_reserved(zero);
+    passes.push_reserved(one);
+    let mut uses: u64 = 0;
+    for card in &table.close(passes) {
+        uses = uses.wrapping_add(card.uses);
+    }
+    uses
+}
+
+// enters and leaves, and tells its number, the seat and the uses
+fn trip(table: &KexTable, out: Out) -> Option<(Out, [u64; 3])>
+    requires { out.table ≡ table.now }
+    ensures { IfSome result (λ t. t.0.table ≡ table.now) }
+{
+    let held = hold(table, out, 2)?;
+    let told = [
+        u64::from(held.number()),
+        u64::from(held.seat()),
+        held.uses(),
+    ];
+    Some((leave(table, held, 3)?, told))
+}
+
+// chain(2, 1) has one stage, no bit and the number 0
+#[test]
+fn a_card_counts_its_uses(rt: HostRuntime) -> Result<(), Fail> {
+    let (table, passes, zero, one) = pair(rt.alloc(), 1)?;
+    let (one, first) = trip(&table, one).expect(&rt, "party 1 is back");
+    let (zero, second) = trip(&table, zero).expect(&rt, "party 0 is back");
+    assert_eq!(rt; [first, second], [[1, 0, 1], [0, 0, 2]]);
+    assert_eq!(rt; uses_of(table, passes, zero, one), 2);
+    Ok(())
+}
+
+// enters and leaves so often, where no party waits
+fn trips(table: &KexTable, mut out: Out, times: u32) -> Option<Out>
+    requires { out.table ≡ table.now }
+    ensures { IfSome result (λ o. o.table ≡ table.now) }
+{
+    for _trip in 0..times {
+        let (back, _told) = trip(table, out)?;
+        out = back;
+    }
+    Some(out)
+}
+
+// two threads make so many trips each
+fn both_trip<R: Threads + Sync>(
+    rt: &R,
+    table: &KexTable,
+    zero: Out,
+    one: Out,
+    times: u32,
+) -> (Option<Out>, Option<Out>)
+    requires zero { zero.table ≡ table.now }
+    requires one { one.table ≡ table.now }
+    ensures zero { IfSome result.0 (λ o. o.table ≡ table.now) }
+    ensures one { IfSome result.1 (λ o. o.table ≡ table.now) }
+{
+    join(
+        rt,
+        move || trips(table, zero, times),
+        move || trips(table, one, times),
+    )
+}
+
+// chain(2, 2) has no stage, one bit and the numbers 0 and 1
+#[test]
+fn two_threads_use_the_cards(rt: HostRuntime) -> Result<(), Fail> {
+    let (table, passes, zero, one) = pair(rt.alloc(), 2)?;
+    let (zero, one) = both_trip(&rt, &table, zero, one, 1000);
+    let zero = zero.expect(&rt, "party 0 is back");
+    let one = one.expect(&rt, "party 1 is back");
+    assert_eq!(rt; uses_of(table, passes, zero, one), 2000);
+    Ok(())
+}

@@ -1,6 +1,0 @@
-use Rattle.std.proofs.Common.{◌≡◌}
-use Rattle.kex_words.specs.Sorts.{pass_in_next}
-use Rattle.kex_words.proofs.tests.inward.Given as goal
-
-abbrev pub invariant-loop-step : goal.invariant-loop-step
-invariant-loop-step l = (pass_in_next l.next).table ≡ l.table

@@ -1,0 +1,5 @@
+mod licences;
+mod options_files;
+mod plain_types;
+mod script_files;
+mod texts;

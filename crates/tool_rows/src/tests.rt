@@ -1,0 +1,5 @@
+mod audits;
+mod checks;
+mod files;
+mod replays;
+mod tools;
