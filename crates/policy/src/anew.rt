@@ -10,7 +10,7 @@ ghost use Rattle.options_machine.specs.Step.{holders_anew, lingering_anew, next_
 use crate::lists::{Lists, holders_charged, lingering_charged};
 use crate::rules::DeskRules;
 use lic_types::Client;
-use options_machine::{Charge, Holder, Limit, Lingerer, applies};
+use options_machine::{Charge, Holder, Limit, Lingerer};
 
 /// How many of these entries have the charge.
 fn given(holders: &[Holder], lingering: &[Lingerer], charge: &Charge) -> usize
@@ -30,7 +30,7 @@ fn is_next(
 ) -> bool
     ensures { result ≡ (applies rules.now.groups client.now limit.now.line && nat_lt (times (map (λ h. h.charge) holders.now ++ map (λ l. l.charge) lingering.now) limit.now.line.line) limit.now.number) }
 {
-    applies(rules.groups(), client, &limit.line)
+    rules.applies(client, &limit.line)
         && given(holders, lingering, &Charge::Reserve(limit.line.line)) < limit.number as usize
 }
 

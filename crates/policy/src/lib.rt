@@ -8,6 +8,7 @@ mod answers;
 mod lists;
 mod members;
 mod plain;
+mod roster;
 mod rows;
 mod rules;
 mod selection;
@@ -21,6 +22,3 @@ pub use plain::PlainBook;
 pub use reply_words::reply_words;
 pub use rows::Rows;
 pub use rules::{DeskRules, are_sets, cuts_at};
-
-#[cfg(test)]
-mod tests;

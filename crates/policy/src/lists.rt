@@ -10,7 +10,7 @@ ghost use Rattle.options_machine.specs.Settle.{in_time, serve, settle, timely, w
 
 use crate::rules::DeskRules;
 use lic_types::{Client, RuleLine};
-use options_machine::{Charge, Decision, Holder, Limit, Lingerer, Queuer, applies};
+use options_machine::{Charge, Decision, Holder, Limit, Lingerer, Queuer};
 
 /// At most so many entries linger.
 pub(crate) const MOST_LINGERING: usize = 4096;
@@ -60,7 +60,7 @@ fn holders_matched(rules: &DeskRules, holders: &[Holder], line: &RuleLine) -> us
 {
     holders
         .iter()
-        .filter(|h| applies(rules.groups(), &h.client, line))
+        .filter(|h| rules.applies(&h.client, line))
         .count()
 }
 
@@ -71,7 +71,7 @@ fn lingering_matched(rules: &DeskRules, lingering: &[Lingerer], line: &RuleLine)
 {
     lingering
         .iter()
-        .filter(|l| applies(rules.groups(), &l.client, line))
+        .filter(|l| rules.applies(&l.client, line))
         .count()
 }
 
@@ -99,7 +99,7 @@ fn retaken(lists: &Lists, client: &Client) -> Option<Charge>
 fn is_reached(rules: &DeskRules, lists: &Lists, client: &Client, limit: &Limit) -> bool
     ensures { result ≡ is_reached rules.now (state_of lists.now) client.now limit.now }
 {
-    applies(rules.groups(), client, &limit.line)
+    rules.applies(client, &limit.line)
         && limit.number as usize <= matched(rules, lists, &limit.line)
 }
 
@@ -118,7 +118,7 @@ fn reached(rules: &DeskRules, lists: &Lists, client: &Client) -> Option<u32>
 fn has_room(rules: &DeskRules, lists: &Lists, client: &Client, limit: &Limit) -> bool
     ensures { result ≡ has_room rules.now (state_of lists.now) client.now limit.now }
 {
-    applies(rules.groups(), client, &limit.line)
+    rules.applies(client, &limit.line)
         && charges(lists, &Charge::Reserve(limit.line.line)) < limit.number as usize
 }
 

@@ -4,7 +4,7 @@ ghost use Rattle.seat_counters.specs.Counts.{first_line, has_seat, is_charged, i
 ghost use Rattle.options_machine.specs.Rules.{applies};
 
 use lic_types::Client;
-use options_machine::{Charge, Limit, applies};
+use options_machine::{Charge, Limit};
 use policy::DeskRules;
 
 /// The count with one more where the test passed.
@@ -54,7 +54,7 @@ pub(crate) fn lower_charged(counts: &mut [u32], limits: &[Limit], charge: &Charg
 fn speaks_of(rules: &DeskRules, client: &Client, limit: &Limit) -> bool
     ensures { result ≡ speaks_of rules.now client.now limit.now }
 {
-    applies(rules.groups(), client, &limit.line)
+    rules.applies(client, &limit.line)
 }
 
 /// One more at each MAX line that speaks of the client.
@@ -97,7 +97,7 @@ pub(crate) fn clear_for(counts: &mut Vec<u32>, limits: &[Limit])
 fn is_used_up(rules: &DeskRules, client: &Client, limit: &Limit, count: u32) -> bool
     ensures { result ≡ is_used_up rules.now client.now limit.now count }
 {
-    limit.number <= count && applies(rules.groups(), client, &limit.line)
+    limit.number <= count && rules.applies(client, &limit.line)
 }
 
 /// The number of the first MAX line that speaks of the client and whose count has come to its number.
@@ -119,7 +119,7 @@ pub(crate) fn first_used_up(rules: &DeskRules, client: &Client, counts: &[u32]) 
 fn has_seat(rules: &DeskRules, client: &Client, limit: &Limit, count: u32) -> bool
     ensures { result ≡ has_seat rules.now client.now limit.now count }
 {
-    count < limit.number && applies(rules.groups(), client, &limit.line)
+    count < limit.number && rules.applies(client, &limit.line)
 }
 
 /// The number of the first RESERVE line that speaks of the client and whose count is below its cut number.

@@ -1,0 +1,64 @@
+import os
+import sys
+import tempfile
+
+from timing import least_seconds, program, write
+
+# The longest line of an options file, with a little to spare.
+ROOM = 8000
+
+
+def licence(count):
+    return f'SERVER keel 0a1b2c3d4e5f 27015\nVENDOR maker\nUSE_SERVER\nINCREMENT mill maker 1.0 permanent {count} SIGN="91BB 0431"\n'
+
+
+def group(members):
+    """As many GROUP lines of one name as these members need."""
+    rows, row = [], "GROUP g"
+    for i in range(members):
+        if len(row) > ROOM:
+            rows.append(row + "\n")
+            row = "GROUP g"
+        row += f" m{i}"
+    return "".join(rows) + row + "\n"
+
+
+def line(at, party, user, verb):
+    """A line of a script, of a party below 256."""
+    words = "mill 1.0" if verb in ("CHECKOUT", "QUEUE") else "mill"
+    return f"{at} {party} u{user} h d p {verb} {words}\n"
+
+
+def lingering_users():
+    """Each of 4,096 users takes a seat, and gives it back, under a MAX line of a group of 1,000."""
+    options = group(1000) + "MAX 4000 mill GROUP g\nLINGER mill 100000\n"
+    script = "".join(line(1790030000 + i, i % 256, i, verb) for i in range(4096) for verb in ("CHECKOUT", "CHECKIN"))
+    return licence(4096), options, script
+
+
+def queued_users(lines):
+    """20 users wait for the one seat, and the first asks how it stands, under 4,000 EXCLUDE lines of a group of 65,536."""
+    options = group(65536) + "EXCLUDE mill GROUP g\n" * 4000
+    script = line(1790030000, 0, 0, "CHECKOUT") + "".join(line(1790030000, i, i, "QUEUE") for i in range(1, 21))
+    script += "".join(line(1790030001 + i, 1, 1, "LOOK") for i in range(lines))
+    return licence(1), options, script
+
+
+def seconds(files):
+    licences, options, script = files
+    write("licence", licences)
+    write("options", options)
+    write("script", script)
+    lines = script.count("\n")
+    return least_seconds([tool, "replay", "licence", "options", "script"], lambda out: out.count(b"\n") == lines)
+
+
+tool = program()
+with tempfile.TemporaryDirectory() as folder:
+    os.chdir(folder)
+    lingering = seconds(lingering_users()) / 8192
+    few, many = seconds(queued_users(20)), seconds(queued_users(220))
+queued = (many - few) / 200
+print(f"a line with 4,096 users: {lingering * 1000:.3f} ms")
+print(f"a line with 20 queued: {queued * 1000:.3f} ms")
+sys.exit(max(lingering, queued) > 0.005)

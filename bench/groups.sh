@@ -1,0 +1,7 @@
+#!/bin/sh
+# Times `replay` on options files with long groups. Two sites: 4,096 users who take a seat and give it back, once each, under
+# a MAX line of a group of 1,000, with a linger time; and 4,000 EXCLUDE lines of a group of 65,536, with 20 users in the
+# queue. It prints the time a line, and ends with 0 only where no line takes over 5 ms. Another program may be named.
+# Build the program first: (cd crates/licence_main && rt run -- check data/licence data/options)
+cd "$(dirname "$0")/.." || exit 1
+exec python3 -B bench/groups.py "$@"
