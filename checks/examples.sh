@@ -1,8 +1,9 @@
 #!/bin/sh
 # Replays and checks each example with the built program, and audits and sums its log where it has one, and compares
-# what it writes with the texts that stand beside it, `expected.replay`, `expected.check`, `expected.audit` and
-# `expected.usage`; and looks that the README shows the first example as it is. An example with a make_options.py has
-# `rules` in the place of its options, and the script writes out both these and the text that `check` shows of them.
+# what it writes with the texts that stand beside it, `expected.replay`, `expected.check` and `expected.report`, and
+# where there is a log `expected.audit` and `expected.usage`; and looks that the README shows the first example as it is. An
+# example with a make_options.py has `rules` in the place of its options, and the script writes out both these and the text
+# that `check` shows of them.
 top=$(cd "$(dirname "$0")/.." && pwd)
 program=${1:-$top/crates/licence_main/out/licence_main}
 wrong=0
@@ -30,6 +31,7 @@ for example in "$top"/examples/*/; do
     set -- licence "$options" script
     [ ! -e more ] || set -- "$@" more
     writes expected.replay replay "$@"
+    writes expected.report report "$@"
     writes "$checked" check licence "$options"
     shift 3
     [ -e log ] || continue

@@ -9,6 +9,7 @@ use Rattle.licence_tool.specs.Status.{has_own_fault, is_refusal}
 use Rattle.licence_tool.specs.Tool.{Comes, EndSays, ForFiles, HistoriesSay, IsDone, IsSure, WritesAll, WritesFront, WritesHistories, WritesNo}
 use Rattle.licence_tool.proofs.Verdicts.{refuted_at, told_or_refuted}
 use Rattle.licence_tool.specs.declared.command.LogReport.{LogReport}
+use Rattle.licence_tool.specs.declared.command.ScriptReport.{ScriptReport}
 use Rattle.licence_tool.specs.declared.status.Status.{Status}
 use Rattle.licence_tool.specs.declared.status.Status.TheVariants.{Done, Usage, Licence, Options, MoreOptions, Script, ReadFault, WriteFault, NoMemory, FileTooLong, AuditNo}
 
@@ -18,14 +19,14 @@ pub record Performs (command : Option (CommandOf (List ℕ))) (contents : List �
   pub unwritten : command ≡ None → new ≡ old
   pub says : ForFiles command contents (λ told. IsDone FR OR told old new s)
 
--- what is done of a replay is done of the files that its words name
-pub for_replay : {X : Type 0} (command : Option (CommandOf (List ℕ))) (contents : List ℕ → Bytes) (licence options third : List ℕ) (f : X → List ℕ) (names : List X) (FR OR : Type 0) (old new : Bytes) (s : Status)
-    → Some (Replay (record { licence = licence; options = options; third = third; more = map f names })) ≡ command
-    → IsDone FR OR (Replay (record { licence = contents licence; options = contents options; third = contents third; more = map (λ (n : X). contents (f n)) names })) old new s
+-- what is done of a replay or a report is done of the files that its words name
+pub for_replay : {X : Type 0} (kind : ScriptReport) (command : Option (CommandOf (List ℕ))) (contents : List ℕ → Bytes) (licence options third : List ℕ) (f : X → List ℕ) (names : List X) (FR OR : Type 0) (old new : Bytes) (s : Status)
+    → Some (Replay kind (record { licence = licence; options = options; third = third; more = map f names })) ≡ command
+    → IsDone FR OR (Replay kind (record { licence = contents licence; options = contents options; third = contents third; more = map (λ (n : X). contents (f n)) names })) old new s
     → ForFiles command contents (λ told. IsDone FR OR told old new s)
-for_replay command contents licence options third f names FR OR old new s is h =
+for_replay kind command contents licence options third f names FR OR old new s is h =
     subst (λ (c : Option (CommandOf (List ℕ))). ForFiles c contents (λ told. IsDone FR OR told old new s)) is
-    (subst (λ (more : List Bytes). IsDone FR OR (Replay (record { licence = contents licence; options = contents options; third = contents third; more = more })) old new s) (sym (map-map contents f names)) h)
+    (subst (λ (more : List Bytes). IsDone FR OR (Replay kind (record { licence = contents licence; options = contents options; third = contents third; more = more })) old new s) (sym (map-map contents f names)) h)
 
 -- and so is what is done of an audit or a usage
 pub for_audit : {X : Type 0} (report : LogReport) (command : Option (CommandOf (List ℕ))) (contents : List ℕ → Bytes) (licence options third : List ℕ) (f : X → List ℕ) (names : List X) (FR OR : Type 0) (old new : Bytes) (s : Status)
@@ -180,13 +181,13 @@ told_is_sure (Check told) are (Check readings) reads =
     let e = same_reading told.licence readings.licence parts.0 reads.licence in
     let f = same_reading told.options readings.options parts.1 reads.options in
     rw (e, f) refl
-told_is_sure (Check told) are (Replay readings) reads = absurd reads
+told_is_sure (Check told) are (Replay kind readings) reads = absurd reads
 told_is_sure (Check told) are (Audit report readings) reads = absurd reads
-told_is_sure (Replay told) are (Check readings) reads = absurd reads
-told_is_sure (Replay told) are (Audit report readings) reads = absurd reads
+told_is_sure (Replay kind told) are (Check readings) reads = absurd reads
+told_is_sure (Replay kind told) are (Audit report readings) reads = absurd reads
 told_is_sure (Audit report told) are (Check readings) reads = absurd reads
-told_is_sure (Audit report told) are (Replay readings) reads = absurd reads
-told_is_sure (Replay told) are (Replay readings) reads = ap (λ (r : RunFiles Bytes). outcome_of (Replay r)) (same_run told readings are reads)
+told_is_sure (Audit report told) are (Replay kind readings) reads = absurd reads
+told_is_sure (Replay kind told) are (Replay same readings) reads = ap (λ (r : RunFiles Bytes). outcome_of (Replay same r)) (same_run told readings are reads.1) ∙ ap (λ (k : ScriptReport). outcome_of (Replay k told)) reads.0
 told_is_sure (Audit report told) are (Audit same readings) reads = ap (λ (r : RunFiles Bytes). outcome_of (Audit same r)) (same_run told readings are reads.1) ∙ ap (λ (r : LogReport). outcome_of (Audit r told)) reads.0
 
 pub told : (command : Option (CommandOf (List ℕ))) (contents : List ℕ → Bytes) → ForFiles command contents (λ told. are_told told ≡ true → IsSure told (outcome_of told))
@@ -215,13 +216,13 @@ calm_run FR told readings calm reads = record {
 
 calm_command : (FR : Type 0) (told readings : CommandOf Bytes) → (FR → ⊥) → AreOfCommand FR told readings → AreOfCommand ⊥ told readings
 calm_command FR (Check told) (Check readings) calm reads = record { licence = calm_reading FR told.licence readings.licence calm reads.licence; options = calm_reading FR told.options readings.options calm reads.options }
-calm_command FR (Check told) (Replay readings) calm reads = reads
+calm_command FR (Check told) (Replay kind readings) calm reads = reads
 calm_command FR (Check told) (Audit report readings) calm reads = reads
-calm_command FR (Replay told) (Check readings) calm reads = reads
-calm_command FR (Replay told) (Audit report readings) calm reads = reads
+calm_command FR (Replay kind told) (Check readings) calm reads = reads
+calm_command FR (Replay kind told) (Audit report readings) calm reads = reads
 calm_command FR (Audit report told) (Check readings) calm reads = reads
-calm_command FR (Audit report told) (Replay readings) calm reads = reads
-calm_command FR (Replay told) (Replay readings) calm reads = calm_run FR told readings calm reads
+calm_command FR (Audit report told) (Replay kind readings) calm reads = reads
+calm_command FR (Replay kind told) (Replay same readings) calm reads = (reads.0, calm_run FR told readings calm reads.1)
 calm_command FR (Audit report told) (Audit same readings) calm reads = (reads.0, calm_run FR told readings calm reads.1)
 
 ok_err : (outcome : Result Due Status) (due : Due) (s : Status) → outcome ≡ Ok due → outcome ≡ Err s → ⊥

@@ -7,7 +7,7 @@ use Rattle.licence_tool.specs.declared.status.Status.TheVariants.{Done, Usage, L
 abbrev pub files_of : Option (CommandOf (List ℕ)) → List (List ℕ)
 files_of None = []
 files_of (Some (Check names)) = names.licence ∷ names.options ∷ []
-files_of (Some (Replay names)) = names.licence ∷ names.options ∷ names.third ∷ names.more
+files_of (Some (Replay kind names)) = names.licence ∷ names.options ∷ names.third ∷ names.more
 files_of (Some (Audit report names)) = names.licence ∷ names.options ∷ names.third ∷ names.more
 
 -- a reading failed

@@ -7,6 +7,8 @@ use Rattle.licence_tool.specs.declared.command.Command.TheVariants.{Check as Che
 use Rattle.licence_tool.specs.declared.command.LogReport.{LogReport}
 use Rattle.licence_tool.specs.declared.command.LogReport.TheVariants.{Users, Days}
 use Rattle.licence_tool.specs.declared.command.RunNames.{RunNames}
+use Rattle.licence_tool.specs.declared.command.ScriptReport.{ScriptReport}
+use Rattle.licence_tool.specs.declared.command.ScriptReport.TheVariants.{Replies, Pools}
 use Rattle.licence_tool.specs.declared.command.Third.{Third}
 use Rattle.licence_tool.specs.declared.command.Third.TheVariants.{Script, Log}
 
@@ -15,17 +17,17 @@ pub record CheckFiles (A : Type 0) : Type 0 where
   pub licence : A
   pub options : A
 
--- the files of a replay, or of an audit or a usage, of which the third is the script or the log: their names, or what is told or read of them
+-- the files of a replay or a report, or of an audit or a usage, of which the third is the script or the log: their names, or what is told or read of them
 pub record RunFiles (A : Type 0) : Type 0 where
   pub licence : A
   pub options : A
   pub third : A
   pub more : List A
 
--- a command with the names of its files, or with what is told or read of them; an audit tells of a log's users, and a usage of its days
+-- a command with the names of its files, or with what is told or read of them; a replay tells the replies to a script, and a report how the pools stand after it; an audit tells of a log's users, and a usage of its days
 pub data CommandOf (A : Type 0) : Type 0 where
   Check : (files : CheckFiles A) → CommandOf A
-  Replay : (files : RunFiles A) → CommandOf A
+  Replay : (kind : ScriptReport) (files : RunFiles A) → CommandOf A
   Audit : (report : LogReport) (files : RunFiles A) → CommandOf A
 
 abbrev pub is_dash : Option ℕ → Bool
@@ -42,21 +44,22 @@ check_of (licence ∷ options ∷ []) =
     if list_all is_plain_word (licence ∷ options ∷ []) then Some (Check (record { licence = licence; options = options })) else None
 check_of words = None
 
--- the files of a replay, an audit or a usage: three to six words that may name files
+-- the files of a replay, a report, an audit or a usage: three to six words that may name files
 abbrev pub run_of : List (List ℕ) → Option (RunFiles (List ℕ))
 run_of (licence ∷ options ∷ third ∷ more) =
     if list_all is_plain_word (licence ∷ options ∷ third ∷ more) && nat_le (length more) 3
     then Some (record { licence = licence; options = options; third = third; more = more }) else None
 run_of words = None
 
--- the command set: `check` with two words that may name files, and `replay`, `audit` and `usage` with three to six
+-- the command set: `check` with two words that may name files, and `replay`, `report`, `audit` and `usage` with three to six
 abbrev pub command_of : List (List ℕ) → Option (CommandOf (List ℕ))
 command_of [] = None
 command_of (verb ∷ names) =
     if pointwise nat_eq verb (codes "check") then check_of names
-    else (if pointwise nat_eq verb (codes "replay") then option_map Replay (run_of names)
+    else (if pointwise nat_eq verb (codes "replay") then option_map (Replay Replies) (run_of names)
+    else (if pointwise nat_eq verb (codes "report") then option_map (Replay Pools) (run_of names)
     else (if pointwise nat_eq verb (codes "audit") then option_map (Audit Users) (run_of names)
-    else (if pointwise nat_eq verb (codes "usage") then option_map (Audit Days) (run_of names) else None)))
+    else (if pointwise nat_eq verb (codes "usage") then option_map (Audit Days) (run_of names) else None))))
 
 abbrev pub run_named : RunNames → RunFiles (List ℕ)
 run_named names = record { licence = names.licence.now; options = names.options.now; third = names.third.now; more = map string_bytes names.more.now }
@@ -64,18 +67,18 @@ run_named names = record { licence = names.licence.now; options = names.options.
 -- a command as the names of its files
 abbrev pub named : Command → CommandOf (List ℕ)
 named (Checks licence options) = Check (record { licence = licence.now; options = options.now })
-named (Replays names) = Replay (run_named names)
+named (Replays kind names) = Replay kind (run_named names)
 named (Audits report names) = Audit report (run_named names)
 
 -- a command names three further options files at most
 abbrev pub HasFewMore : Command → Type 0
 HasFewMore (Checks licence options) = Unit {0}
-HasFewMore (Replays names) = length names.more.now ≤ 3
+HasFewMore (Replays kind names) = length names.more.now ≤ 3
 HasFewMore (Audits report names) = length names.more.now ≤ 3
 
 -- what the third file of a command is
 abbrev pub third_in : Option (CommandOf (List ℕ)) → Third
 third_in None = Script
 third_in (Some (Check names)) = Script
-third_in (Some (Replay names)) = Script
+third_in (Some (Replay kind names)) = Script
 third_in (Some (Audit report names)) = Log

@@ -6,14 +6,14 @@ use Rattle.licence_tool.specs.Command.{CheckFiles, Audit, CommandOf, Check, Repl
 abbrev pub Bytes : Type 0
 Bytes = Option (List ℕ)
 
--- what the files of a replay, an audit or a usage hold, as far as that is told
+-- what the files of a replay, a report, an audit or a usage hold, as far as that is told
 abbrev pub run_told : (List ℕ → Bytes) → RunFiles (List ℕ) → RunFiles Bytes
 run_told contents names = record { licence = contents names.licence; options = contents names.options; third = contents names.third; more = map contents names.more }
 
 -- what the files of a command hold, as far as that is told
 abbrev pub told_by : (List ℕ → Bytes) → CommandOf (List ℕ) → CommandOf Bytes
 told_by contents (Check names) = Check (record { licence = contents names.licence; options = contents names.options })
-told_by contents (Replay names) = Replay (run_told contents names)
+told_by contents (Replay kind names) = Replay kind (run_told contents names)
 told_by contents (Audit report names) = Audit report (run_told contents names)
 
 abbrev pub is_run_told : RunFiles Bytes → Bool
@@ -22,7 +22,7 @@ is_run_told told = is_some told.licence && (is_some told.options && (is_some tol
 -- whether it is told of each file what it holds
 abbrev pub are_told : CommandOf Bytes → Bool
 are_told (Check told) = is_some told.licence && is_some told.options
-are_told (Replay told) = is_run_told told
+are_told (Replay kind told) = is_run_told told
 are_told (Audit report told) = is_run_told told
 
 -- what may be read of a file: just the bytes that it is told to hold, or any where nothing is told; and nothing where its reading failed
@@ -42,7 +42,7 @@ pub record AreOfCheck (Failed : Type 0) (told readings : CheckFiles Bytes) : Typ
   pub licence : IsReading Failed told.licence readings.licence
   pub options : IsReading Failed told.options readings.options
 
--- the same of the files of a replay, an audit or a usage
+-- the same of the files of a replay, a report, an audit or a usage
 pub record AreOfRun (Failed : Type 0) (told readings : RunFiles Bytes) : Type 0 where
   pub licence : IsReading Failed told.licence readings.licence
   pub options : IsReading Failed told.options readings.options
@@ -52,11 +52,11 @@ pub record AreOfRun (Failed : Type 0) (told readings : RunFiles Bytes) : Type 0 
 -- the same of the files of a command
 abbrev pub AreOfCommand : Type 0 → CommandOf Bytes → CommandOf Bytes → Type 0
 AreOfCommand Failed (Check told) (Check readings) = AreOfCheck Failed told readings
-AreOfCommand Failed (Replay told) (Replay readings) = AreOfRun Failed told readings
+AreOfCommand Failed (Replay kind told) (Replay same readings) = (same ≡ kind) × AreOfRun Failed told readings
 AreOfCommand Failed (Audit report told) (Audit same readings) = (same ≡ report) × AreOfRun Failed told readings
-AreOfCommand Failed (Check told) (Replay readings) = ⊥
+AreOfCommand Failed (Check told) (Replay kind readings) = ⊥
 AreOfCommand Failed (Check told) (Audit report readings) = ⊥
-AreOfCommand Failed (Replay told) (Check readings) = ⊥
-AreOfCommand Failed (Replay told) (Audit report readings) = ⊥
+AreOfCommand Failed (Replay kind told) (Check readings) = ⊥
+AreOfCommand Failed (Replay kind told) (Audit report readings) = ⊥
 AreOfCommand Failed (Audit report told) (Check readings) = ⊥
-AreOfCommand Failed (Audit report told) (Replay readings) = ⊥
+AreOfCommand Failed (Audit report told) (Replay kind readings) = ⊥

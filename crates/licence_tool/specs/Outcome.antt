@@ -12,6 +12,7 @@ use Rattle.options_text.specs.Options.{OptionsFile, options_of}
 use Rattle.options_text.specs.declared.fault.OptionsFault.{OptionsFault}
 use Rattle.script_text.specs.Script.{script_of}
 use Rattle.script_text.specs.declared.line.ScriptLine.{ScriptLine}
+use Rattle.scripts.specs.Reports.{report_of}
 use Rattle.scripts.specs.Script.{output_of}
 use Rattle.licence_tool.specs.AuditText.{IsNo, IsYes, yes_text}
 use Rattle.licence_tool.specs.UsageText.{IsUsage, IsUsageText}
@@ -19,6 +20,8 @@ use Rattle.licence_tool.specs.Command.{Audit, CheckFiles, CommandOf, Check, Repl
 use Rattle.licence_tool.specs.Files.{Bytes}
 use Rattle.licence_tool.specs.declared.command.LogReport.{LogReport}
 use Rattle.licence_tool.specs.declared.command.LogReport.TheVariants.{Users, Days}
+use Rattle.licence_tool.specs.declared.command.ScriptReport.{ScriptReport}
+use Rattle.licence_tool.specs.declared.command.ScriptReport.TheVariants.{Replies, Pools}
 use Rattle.licence_tool.specs.declared.status.Status.{Status}
 use Rattle.licence_tool.specs.declared.status.Status.TheVariants.{Licence, Options, MoreOptions, Script, ReadFault, FileTooLong}
 
@@ -89,7 +92,7 @@ check_outcome readings =
     (options_heard 0 readings.options >>= λ options.
     Ok (Text (check_of licence options)))
 
--- what comes of a replay, an audit or a usage, by what is heard of its third file under a licence and what is due for that, or the status of the first file at fault
+-- what comes of a replay, a report, an audit or a usage, by what is heard of its third file under a licence and what is due for that, or the status of the first file at fault
 abbrev pub run_outcome : {T : Type 0} → (Contents → Bytes → Result T Status) → (Contents → List OptionsFile → T → Due) → RunFiles Bytes → Result Due Status
 run_outcome third_heard due readings =
     licence_heard readings.licence >>= λ licence.
@@ -98,9 +101,14 @@ run_outcome third_heard due readings =
     (sets_heard (options ∷ []) readings.more >>= λ sets.
     Ok (due licence sets third))))
 
--- what comes of a replay: the output of its script
-abbrev pub replay_outcome : RunFiles Bytes → Result Due Status
-replay_outcome readings = run_outcome (λ licence. script_heard) (λ licence sets script. Text (output_of licence.pools sets script)) readings
+-- what is told of a script at these pools, by the rules of these options files: its replies, or how the pools stand after it
+abbrev pub script_told : ScriptReport → List Pool → List OptionsFile → List ScriptLine → List ℕ
+script_told Replies pools sets script = output_of pools sets script
+script_told Pools pools sets script = report_of pools sets script
+
+-- what comes of a replay or a report: what is told of its script
+abbrev pub replay_outcome : ScriptReport → RunFiles Bytes → Result Due Status
+replay_outcome kind readings = run_outcome (λ licence. script_heard) (λ licence sets script. Text (script_told kind licence.pools sets script)) readings
 
 -- what comes of an audit or a usage: the verdict on the log's entries
 abbrev pub audit_outcome : LogReport → RunFiles Bytes → Result Due Status
@@ -110,5 +118,5 @@ audit_outcome report readings =
 -- what comes of a command by what is read of its files: what is due, or the status of the first file at fault
 abbrev pub outcome_of : CommandOf Bytes → Result Due Status
 outcome_of (Check readings) = check_outcome readings
-outcome_of (Replay readings) = replay_outcome readings
+outcome_of (Replay kind readings) = replay_outcome kind readings
 outcome_of (Audit report readings) = audit_outcome report readings

@@ -6,11 +6,11 @@ use Rattle.outside.specs.Told.{TakesFront, told_with}
 use Rattle.feature_lines.specs.Licence.{Contents}
 use Rattle.script_text.specs.declared.line.ScriptLine.{ScriptLine}
 use Rattle.scripts.specs.Laws.{Histories}
-use Rattle.scripts.specs.Script.{output_of}
 use Rattle.licence_tool.specs.Command.{Audit, CommandOf, Check, Replay, RunFiles}
 use Rattle.licence_tool.specs.Files.{AreOfCommand, AreReadings, Bytes, IsReading, told_by}
-use Rattle.licence_tool.specs.Outcome.{Due, IsRefuted, IsTold, licence_heard, options_heard, outcome_of, script_heard, sets_heard}
+use Rattle.licence_tool.specs.Outcome.{Due, IsRefuted, IsTold, licence_heard, options_heard, outcome_of, script_heard, script_told, sets_heard}
 use Rattle.licence_tool.specs.FaultText.{is_of_licence, is_of_options}
+use Rattle.licence_tool.specs.declared.command.ScriptReport.{ScriptReport}
 use Rattle.licence_tool.specs.declared.status.Status.{Status}
 use Rattle.licence_tool.specs.declared.status.Status.TheVariants.{Done, Usage, Licence, Options, MoreOptions, Script, ReadFault, WriteFault, NoMemory, FileTooLong, AuditNo}
 
@@ -126,8 +126,8 @@ EndSays Failed OutFailed old new outcome (Script fault) = (new ≡ old) × Refus
 EndSays Failed OutFailed old new outcome (ReadFault file) = (new ≡ old) × RefusalSays Failed outcome (ReadFault file)
 EndSays Failed OutFailed old new outcome (FileTooLong file) = (new ≡ old) × RefusalSays Failed outcome (FileTooLong file)
 
--- what was read of the files of a replay was accepted, the histories that its script makes are lawful runs, and their output was written
-pub record TellsHistories (readings : RunFiles Bytes) (old new : Bytes) : Type 0 where
+-- what was read of the files of a replay or a report was accepted, the histories that its script makes are lawful runs, and what is told of them was written
+pub record TellsHistories (kind : ScriptReport) (readings : RunFiles Bytes) (old new : Bytes) : Type 0 where
   pub licence : Contents
   pub options : OptionsFile
   pub script : List ScriptLine
@@ -137,23 +137,23 @@ pub record TellsHistories (readings : RunFiles Bytes) (old new : Bytes) : Type 0
   pub script_is : script_heard readings.third ≡ Ok script
   pub sets_is : sets_heard (options ∷ []) readings.more ≡ Ok sets
   pub histories : Histories licence.pools sets script
-  pub written : new ≡ told_with old (output_of licence.pools sets script)
+  pub written : new ≡ told_with old (script_told kind licence.pools sets script)
 
--- what a status says of the histories of a replay
+-- what a status says of the histories of a replay or a report
 abbrev pub HistoriesSay : CommandOf Bytes → Bytes → Bytes → Status → Type 0
 HistoriesSay (Check readings) old new status = Unit {0}
 HistoriesSay (Audit report readings) old new status = Unit {0}
-HistoriesSay (Replay readings) old new Done = TellsHistories readings old new
-HistoriesSay (Replay readings) old new Usage = Unit {0}
-HistoriesSay (Replay readings) old new WriteFault = Unit {0}
-HistoriesSay (Replay readings) old new NoMemory = Unit {0}
-HistoriesSay (Replay readings) old new (Licence fault) = Unit {0}
-HistoriesSay (Replay readings) old new (Options fault) = Unit {0}
-HistoriesSay (Replay readings) old new (MoreOptions set fault) = Unit {0}
-HistoriesSay (Replay readings) old new (Script fault) = Unit {0}
-HistoriesSay (Replay readings) old new (ReadFault file) = Unit {0}
-HistoriesSay (Replay readings) old new (FileTooLong file) = Unit {0}
-HistoriesSay (Replay readings) old new (AuditNo line) = Unit {0}
+HistoriesSay (Replay kind readings) old new Done = TellsHistories kind readings old new
+HistoriesSay (Replay kind readings) old new Usage = Unit {0}
+HistoriesSay (Replay kind readings) old new WriteFault = Unit {0}
+HistoriesSay (Replay kind readings) old new NoMemory = Unit {0}
+HistoriesSay (Replay kind readings) old new (Licence fault) = Unit {0}
+HistoriesSay (Replay kind readings) old new (Options fault) = Unit {0}
+HistoriesSay (Replay kind readings) old new (MoreOptions set fault) = Unit {0}
+HistoriesSay (Replay kind readings) old new (Script fault) = Unit {0}
+HistoriesSay (Replay kind readings) old new (ReadFault file) = Unit {0}
+HistoriesSay (Replay kind readings) old new (FileTooLong file) = Unit {0}
+HistoriesSay (Replay kind readings) old new (AuditNo line) = Unit {0}
 
 -- what was written tells of the histories that come of what may have been read of the files
 abbrev pub WritesHistories : Type 0 → CommandOf Bytes → Bytes → Bytes → Type 0

@@ -6,17 +6,26 @@ ghost use Rattle.licence_tool.specs.Words.{command_in};
 
 use crate::words::Words;
 
-/// The names of the files of a replay, an audit or a usage.
+/// The names of the files of a replay, a report, an audit or a usage.
 #[derive(Clone, Copy, Debug)]
 pub struct RunNames<'a> {
     /// The name of the licence file.
     pub licence: &'a str,
     /// The name of the options file, whose rules hold at first.
     pub options: &'a str,
-    /// The name of the third file: the script of a replay, or the log of an audit or a usage.
+    /// The name of the third file: the script of a replay or a report, or the log of an audit or a usage.
     pub third: &'a str,
     /// The names of the further options files, three at most, whose rules the third file may ask for.
     pub more: &'a [String],
+}
+
+/// What is told of a script that was played.
+#[derive(Clone, Copy, Debug, PartialEq, Eq)]
+pub enum ScriptReport {
+    /// The reply to each of its lines, as `replay` tells them.
+    Replies,
+    /// How each pool stands after its last line, as `report` tells it.
+    Pools,
 }
 
 /// What is told of a log that is a run.
@@ -38,8 +47,8 @@ pub enum Command<'a> {
         /// The name of the options file.
         options: &'a str,
     },
-    /// Replays a script of requests against a licence and an options file.
-    Replay(RunNames<'a>),
+    /// Plays a script of requests against a licence and options files, and tells this of it.
+    Replay(ScriptReport, RunNames<'a>),
     /// Judges a log by a licence and options files, and writes this report on one that is a run.
     Audit(LogReport, RunNames<'a>),
 }
@@ -47,7 +56,7 @@ pub enum Command<'a> {
 /// What the third file of a command is.
 #[derive(Clone, Copy, Debug, PartialEq, Eq)]
 pub enum Third {
-    /// The script of a replay. So it is also said of a command that has no third file.
+    /// The script of a replay or a report. So it is also said of a command that has no third file.
     Script,
     /// The log of an audit or a usage.
     Log,
@@ -91,7 +100,7 @@ fn read_check(names: &[String]) -> Option<Command<'_>>
     }
 }
 
-/// The files of a replay, an audit or a usage: three to six words that may name files. `None` comes exactly where they aren't.
+/// The files of a replay, a report, an audit or a usage: three to six words that may name files. `None` comes exactly where they aren't.
 fn read_run(names: &[String]) -> Option<RunNames<'_>>
     ensures run { option_map run_named result ≡ run_of (map string_bytes names.now) }
     ensures few { IfSome result (λ run. length run.more.now ≤ 3) }
@@ -113,7 +122,7 @@ fn read_run(names: &[String]) -> Option<RunNames<'_>>
 }
 
 /// The command that the words are, without the program's name. `None` comes exactly where they are neither `check` and
-/// two words that may name files, nor `replay`, `audit` or `usage` and three to six of them.
+/// two words that may name files, nor `replay`, `report`, `audit` or `usage` and three to six of them.
 pub fn read_command(words: &[String]) -> Option<Command<'_>>
     ensures command { option_map named result ≡ command_of (map string_bytes words.now) }
     ensures few { IfSome result HasFewMore }
@@ -124,7 +133,9 @@ pub fn read_command(words: &[String]) -> Option<Command<'_>>
     if verb.as_str() == "check" {
         read_check(names)
     } else if verb.as_str() == "replay" {
-        Some(Command::Replay(read_run(names)?))
+        Some(Command::Replay(ScriptReport::Replies, read_run(names)?))
+    } else if verb.as_str() == "report" {
+        Some(Command::Replay(ScriptReport::Pools, read_run(names)?))
     } else if verb.as_str() == "audit" {
         Some(Command::Audit(LogReport::Users, read_run(names)?))
     } else if verb.as_str() == "usage" {

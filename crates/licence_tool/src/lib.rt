@@ -14,8 +14,6 @@ mod reading;
 mod room;
 mod running;
 mod status;
-#[cfg(test)]
-mod tests;
 mod usage_text;
 mod words;
 

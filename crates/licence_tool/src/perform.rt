@@ -6,16 +6,17 @@ ghost use Rattle.log_audit.specs.Log.{is_fit as is_fit_at};
 ghost use Rattle.outside.specs.Told.{HasRisen, TakesFront, told_with};
 ghost use Rattle.script_text.specs.Fits.{is_fit};
 ghost use Rattle.scripts.specs.Laws.{Histories};
+ghost use Rattle.scripts.specs.Reports.{report_of};
 ghost use Rattle.scripts.specs.Script.{output_of};
 ghost use Rattle.licence_tool.specs.Asked.{Asks, HasFailed, files_of};
 ghost use Rattle.licence_tool.specs.AuditText.{no_text};
 ghost use Rattle.licence_tool.specs.Command.{command_of, Audit, Check, Replay};
-ghost use Rattle.licence_tool.specs.Outcome.{IsRunText, Verdict};
+ghost use Rattle.licence_tool.specs.Outcome.{IsRunText, Verdict, script_told};
 ghost use Rattle.licence_tool.specs.Tool.{DueSays, ForFiles, IsDone, WritingSays, status_of};
 ghost use Rattle.licence_tool.specs.Words.{IsNoCommand, command_in};
 
 use crate::audit_text::{NO_ROOM, put_no, yes_text};
-use crate::command::{Command, LogReport, read_command};
+use crate::command::{Command, LogReport, ScriptReport, read_command};
 use crate::reading::{
     read_licence_file, read_log_file, read_options_file, read_script_file, read_sets,
 };
@@ -30,7 +31,7 @@ use options_machine::Reply;
 use options_text::Options;
 use outside::{Files, Sink, WriteFailed};
 use script_text::ScriptLine;
-use scripts::{PlayFault, play};
+use scripts::{PlayFault, play, report_script};
 use std::alloc::Global;
 
 /// Writes a text.
@@ -59,7 +60,7 @@ fn write_check<O: Sink>(
 }
 
 /// Writes what the lines of a script are answered.
-fn write_replay<O: Sink>(
+fn write_replies<O: Sink>(
     alloc: Global,
     licence: &Licence,
     sets: &[Options],
@@ -76,6 +77,47 @@ fn write_replay<O: Sink>(
         Ok(()) => Ok(()),
         Err(PlayFault::WriteFailed) => Err(Status::WriteFault),
         Err(PlayFault::NoMemory) => Err(Status::NoMemory),
+    }
+}
+
+/// Writes how the pools stand after a script.
+fn write_pools<O: Sink>(
+    alloc: Global,
+    licence: &Licence,
+    sets: &[Options],
+    script: &[ScriptLine],
+    out: &mut O,
+) -> Result<(), Status>
+    requires fit { list_all is_fit script.now ≡ true }
+    requires some { 0 < length sets.now }
+    requires few { length sets.now ≤ 4 }
+    ensures says { WritingSays (HasRisen (O.faults out.old) (O.faults out.new)) (O.held out.old) (O.held out.new) (report_of licence.now.pools sets.now script.now) (status_of result) }
+    ensures histories { Histories licence.now.pools sets.now script.now }
+{
+    let Ok(text) = report_script(alloc, licence, sets, script) else {
+        return Err(Status::NoMemory);
+    };
+    write_text(text.as_slice(), out)
+}
+
+/// Plays a script and writes what is to be told of it.
+fn write_replay<O: Sink>(
+    alloc: Global,
+    report: ScriptReport,
+    licence: &Licence,
+    sets: &[Options],
+    script: &[ScriptLine],
+    out: &mut O,
+) -> Result<(), Status>
+    requires fit { list_all is_fit script.now ≡ true }
+    requires some { 0 < length sets.now }
+    requires few { length sets.now ≤ 4 }
+    ensures says { WritingSays (HasRisen (O.faults out.old) (O.faults out.new)) (O.held out.old) (O.held out.new) (script_told report licence.now.pools sets.now script.now) (status_of result) }
+    ensures histories { Histories licence.now.pools sets.now script.now }
+{
+    match report {
+        ScriptReport::Replies => write_replies(alloc, licence, sets, script, out),
+        ScriptReport::Pools => write_pools(alloc, licence, sets, script, out),
     }
 }
 
@@ -167,9 +209,10 @@ fn check<F: Files, O: Sink>(
     write_check(alloc, &licence, &options, out)
 }
 
-/// Replays a script against a licence and options files.
+/// Plays a script against a licence and options files, and tells this of it.
 fn replay<F: Files, O: Sink>(
     alloc: Global,
+    report: ScriptReport,
     licence: &str,
     options: &str,
     script: &str,
@@ -180,14 +223,21 @@ fn replay<F: Files, O: Sink>(
     requires { length more.now ≤ 3 }
     ensures asked { Asks 1 (licence.now ∷ options.now ∷ script.now ∷ map string_bytes more.now) (F.asked files.old) (F.asked files.new) (F.failed files.old) (F.failed files.new) (status_of result) }
     ensures says { IsDone (HasFailed (F.failed files.old) (F.failed files.new)) (HasRisen (O.faults out.old) (O.faults out.new))
-        (Replay (record { licence = F.contents files.old licence.now; options = F.contents files.old options.now; third = F.contents files.old script.now; more = map (λ name. F.contents files.old (string_bytes name)) more.now }))
+        (Replay report (record { licence = F.contents files.old licence.now; options = F.contents files.old options.now; third = F.contents files.old script.now; more = map (λ name. F.contents files.old (string_bytes name)) more.now }))
         (O.held out.old) (O.held out.new) (status_of result) }
 {
     let licence = read_licence_file(alloc, files, licence)?;
     let options = read_options_file(alloc, files, options, 0)?;
     let script = read_script_file(alloc, files, script)?;
     let sets = read_sets(alloc, files, more, options)?;
-    write_replay(alloc, &licence, sets.as_slice(), script.as_slice(), out)
+    write_replay(
+        alloc,
+        report,
+        &licence,
+        sets.as_slice(),
+        script.as_slice(),
+        out,
+    )
 }
 
 /// Judges a log by a licence and options files, and writes this report on one that is a run.
@@ -250,8 +300,9 @@ fn perform_words<F: Files, O: Sink>(
         Some(Command::Check { licence, options }) => {
             status_of(check(alloc, licence, options, files, out))
         }
-        Some(Command::Replay(names)) => status_of(replay(
+        Some(Command::Replay(report, names)) => status_of(replay(
             alloc,
+            report,
             names.licence,
             names.options,
             names.third,

@@ -20,7 +20,7 @@ pub enum Status {
     Options(OptionsFault),
     /// The further options file of this number, from 1, is refused.
     MoreOptions(u8, OptionsFault),
-    /// The script of a replay is refused, or the log of an audit.
+    /// The script of a replay or a report is refused, or the log of an audit.
     Script(ScriptFault),
     /// The file at this position wasn't read.
     ReadFault(u8),

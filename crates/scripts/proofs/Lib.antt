@@ -6,3 +6,5 @@ pub mod Stands
 pub mod Steps
 pub mod Texts
 pub mod Writes
+pub mod Replied
+pub mod Reported

@@ -1,4 +1,4 @@
-use Rattle.std.proofs.Common.{◌≡◌, ℕ, zero, suc, ◌+◌, ◌-◌, ◌<◌, ◌^◌, Bool, true, false, ◌&&◌, List, [], ◌∷◌, ◌++◌, length, map, take, drop, get_or, Option, None, Some, cond, refl, sym, ap, ◌∙◌, arith, add-one, eqb, ltb, subst}
+use Rattle.std.proofs.Common.{◌≡◌, ℕ, zero, suc, ◌+◌, ◌-◌, ◌%◌, ◌<◌, ◌^◌, if◌then◌else◌, Bool, true, false, ◌&&◌, List, [], ◌∷◌, ◌++◌, length, map, take, drop, get_or, Option, None, Some, cond, refl, sym, ap, ◌∙◌, arith, add-one, eqb, ltb, subst}
 use Rattle.std.proofs.Math.ListN.{set}
 use Rattle.std.proofs.lemmas.Bool.{eqb-true, ltb-true}
 use Rattle.std.specs.List.{list_all, position_from}
@@ -7,33 +7,40 @@ use Rattle.feature_lines.specs.declared.pool.Pool.{Pool}
 use Rattle.lic_types.specs.declared.day.Expiry.{Expiry}
 use Rattle.lic_types.specs.declared.day.Expiry.TheVariants.{Never, On}
 use Rattle.options_machine.proofs.Counts.{and_left, and_right}
+use Rattle.options_machine.specs.Own.{brings_seat}
 use Rattle.options_machine.specs.Rules.{Rules}
 use Rattle.options_machine.specs.Run.{AsksForSet, IsBelow}
 use Rattle.options_machine.specs.State.{State}
 use Rattle.options_machine.specs.Step.{set_asked}
 use Rattle.options_machine.specs.declared.reply.Reply.{Reply}
-use Rattle.policy.specs.Books.{Book}
+use Rattle.seat_book.specs.Books.{BookWithGrants}
 use Rattle.script_text.specs.declared.line.ScriptLine.{ScriptLine}
 use Rattle.scripts.specs.Desks.{IsThere, answer_at, entered_at, is_ready, places_with}
 use Rattle.scripts.specs.Script.{changed_at, request_of}
 use Rattle.scripts.specs.declared.desk.Desk.{Desk}
 
-same_book : (book old : Book) (state : State) → book.sets ≡ old.sets → book.parties ≡ old.parties → book.state ≡ state → book ≡ record { sets = old.sets; parties = old.parties; state = state }
-same_book book old state a b c =
-    let f : List Rules → Book = λ sets. record { sets = sets; parties = book.parties; state = book.state } in
-    let g : ℕ → Book = λ parties. record { sets = old.sets; parties = parties; state = book.state } in
-    let h : State → Book = λ s. record { sets = old.sets; parties = old.parties; state = s } in
-    ap f a ∙ (ap g b ∙ ap h c)
+same_book : (book old : BookWithGrants) (state : State) (grants : ℕ) → book.sets ≡ old.sets → book.parties ≡ old.parties → book.state ≡ state → book.grants ≡ grants
+    → book ≡ record { sets = old.sets; parties = old.parties; state = state; grants = grants }
+same_book book old state grants a b c d =
+    let f : List Rules → BookWithGrants = λ sets. record { sets = sets; parties = book.parties; state = book.state; grants = book.grants } in
+    let g : ℕ → BookWithGrants = λ parties. record { sets = old.sets; parties = parties; state = book.state; grants = book.grants } in
+    let h : State → BookWithGrants = λ s. record { sets = old.sets; parties = old.parties; state = s; grants = book.grants } in
+    let i : ℕ → BookWithGrants = λ n. record { sets = old.sets; parties = old.parties; state = state; grants = n } in
+    ap f a ∙ (ap g b ∙ (ap h c ∙ ap i d))
+
+-- how many replies brought a seat, with one more reply
+abbrev pub grants_with : ℕ → Reply → ℕ
+grants_with grants reply = (grants + (if brings_seat reply then 1 else 0)) % 2 ^ 64
 
 -- a desk after a step of its book
-pub entered_by : (line : ScriptLine) (d : Desk) (book : Book) (places : List Bool) (reply : Reply) → (reply, book.state) ≡ answer_at line d → book.sets ≡ d.book.sets → book.parties ≡ d.book.parties
-    → places ≡ places_with d.places line reply → record { pool = d.pool; book = book; entries = d.entries + 1; places = places } ≡ entered_at line d
-entered_by line d book places reply served sets parties moved =
+pub entered_by : (line : ScriptLine) (d : Desk) (book : BookWithGrants) (places : List Bool) (reply : Reply) → (reply, book.state) ≡ answer_at line d → book.sets ≡ d.book.sets → book.parties ≡ d.book.parties
+    → book.grants ≡ grants_with d.book.grants reply → places ≡ places_with d.places line reply → record { pool = d.pool; book = book; entries = d.entries + 1; places = places } ≡ entered_at line d
+entered_by line d book places reply served sets parties counted moved =
     let state : book.state ≡ (answer_at line d).1 = ap (λ (r : Reply × State). r.1) served in
     let said : reply ≡ (answer_at line d).0 = ap (λ (r : Reply × State). r.0) served in
-    let f : Book → Desk = λ b. record { pool = d.pool; book = b; entries = d.entries + 1; places = places } in
-    let g : List Bool → Desk = λ ps. record { pool = d.pool; book = record { sets = d.book.sets; parties = d.book.parties; state = (answer_at line d).1 }; entries = d.entries + 1; places = ps } in
-    ap f (same_book book d.book (answer_at line d).1 sets parties state) ∙ ap g (moved ∙ ap (places_with d.places line) said)
+    let f : BookWithGrants → Desk = λ b. record { pool = d.pool; book = b; entries = d.entries + 1; places = places } in
+    let g : List Bool → Desk = λ ps. record { pool = d.pool; book = record { sets = d.book.sets; parties = d.book.parties; state = (answer_at line d).1; grants = grants_with d.book.grants (answer_at line d).0 }; entries = d.entries + 1; places = ps } in
+    ap f (same_book book d.book (answer_at line d).1 (grants_with d.book.grants (answer_at line d).0) sets parties state (counted ∙ ap (grants_with d.book.grants) said)) ∙ ap g (moved ∙ ap (places_with d.places line) said)
 
 within_or : (i n at : ℕ) (b : Bool) (rest : Option ℕ) → (rest ≡ Some at → at < i + 1 + n) → cond b (Some i) rest ≡ Some at → at < i + suc n
 within_or i n at true rest h e = let same : i ≡ at = cc in omega arith

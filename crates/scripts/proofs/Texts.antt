@@ -95,7 +95,7 @@ reread_on : (sets lines : ℕ) (line : ScriptLine) (ds : List Desk) (ls : List L
 reread_on sets lines line ds ls true within k = desks_entered sets lines line ds ls within k
 reread_on sets lines line ds ls false within k = desks_wait sets lines ds ls k
 
-asked_on : (sets lines : ℕ) (pools : List Pool) (ds : List Desk) (ls : List Ledger) (line : ScriptLine) (asked : Option ℕ) → line.party < 256
+pub asked_on : (sets lines : ℕ) (pools : List Pool) (ds : List Desk) (ls : List Ledger) (line : ScriptLine) (asked : Option ℕ) → line.party < 256
     → map (λ (l : Ledger). l.pool) ls ≡ pools → AreDesks sets lines ds ls → AreDesks sets (lines + 1) (desks_asked sets pools ds line asked) (after_asked sets ls line asked)
 asked_on sets lines pools ds ls line None within is k =
     rw (same_sent sets lines pools ds ls line line.feature within is k) (sent_on sets lines line ds ls (sent ls line line.feature) within k)

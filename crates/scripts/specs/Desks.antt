@@ -1,4 +1,4 @@
-use Rattle.std.specs.Prelude.{ℕ, ◌+◌, ◌-◌, ◌^◌, ◌<◌, Bool, false, ◌&&◌, ◌||◌, ◌==◌, nat_lt, if◌then◌else◌, List, [], ◌∷◌, ◌++◌, length, map, replicate, Option, None, Some, codes, slice_get, slice_set, unwrap_or}
+use Rattle.std.specs.Prelude.{ℕ, ◌+◌, ◌-◌, ◌%◌, ◌^◌, ◌<◌, Bool, false, ◌&&◌, ◌||◌, ◌==◌, nat_lt, if◌then◌else◌, List, [], ◌∷◌, ◌++◌, length, map, replicate, Option, None, Some, codes, slice_get, slice_set, unwrap_or}
 use Rattle.std.specs.List.{position_from}
 use Rattle.feature_lines.specs.Route.{route}
 use Rattle.feature_lines.specs.declared.pool.Pool.{Pool}
@@ -7,7 +7,7 @@ use Rattle.feature_lines.specs.declared.route.Found.TheVariants.{Pool as At, Unk
 use Rattle.lic_types.specs.Days.{day_text}
 use Rattle.lic_types.specs.Groups.{same_name}
 use Rattle.lic_types.specs.declared.version.Version.{Version}
-use Rattle.options_machine.specs.Own.{is_of_holding, is_of_queueing}
+use Rattle.options_machine.specs.Own.{brings_seat, is_of_holding, is_of_queueing}
 use Rattle.options_machine.specs.State.{State, opening}
 use Rattle.options_machine.specs.Step.{set_asked, step}
 use Rattle.options_machine.specs.declared.reply.Reply.{Reply}
@@ -21,7 +21,7 @@ use Rattle.scripts.specs.declared.desk.Desk.{Desk}
 abbrev pub desk_of : List OptionsFile → Pool → Desk
 desk_of files pool = record {
   pool = pool;
-  book = record { sets = map (rules_of pool) files; parties = 256; state = opening };
+  book = record { sets = map (rules_of pool) files; parties = 256; state = opening; grants = 0 };
   entries = 0;
   places = replicate 256 false;
 }
@@ -46,7 +46,12 @@ answer_at line desk = step desk.book.sets desk.book.state (request_of line) line
 abbrev pub entered_at : ScriptLine → Desk → Desk
 entered_at line desk = record {
   pool = desk.pool;
-  book = record { sets = desk.book.sets; parties = desk.book.parties; state = (answer_at line desk).1 };
+  book = record {
+    sets = desk.book.sets;
+    parties = desk.book.parties;
+    state = (answer_at line desk).1;
+    grants = (desk.book.grants + (if brings_seat (answer_at line desk).0 then 1 else 0)) % 2 ^ 64;
+  };
   entries = desk.entries + 1;
   places = places_with desk.places line (answer_at line desk).0;
 }

@@ -2,5 +2,6 @@ pub mod Desks
 pub mod Laws
 pub mod Ledgers
 pub mod Played
+pub mod Reports
 pub mod Script
 pub mod Written

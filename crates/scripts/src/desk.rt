@@ -6,8 +6,8 @@ ghost use Rattle.scripts.specs.Script.{request_of};
 use feature_lines::Pool;
 use lic_types::Name;
 use options_machine::{Reply, Request};
-use policy::PlainBook;
 use script_text::ScriptLine;
+use seat_book::Book;
 
 /// How many parties a script may speak of.
 pub(crate) const PARTIES: u32 = 256;
@@ -16,7 +16,7 @@ pub(crate) const PARTIES: u32 = 256;
 #[derive(Drop)]
 pub(crate) struct Desk {
     pub(crate) pool: Pool,
-    pub(crate) book: PlainBook,
+    pub(crate) book: Book,
     /// How many entries were made there.
     pub(crate) entries: u64,
     /// Which parties keep a place there: those whose standing reply is of holding or of queueing.

@@ -3,7 +3,7 @@ ghost use Rattle.std.specs.List.{list_all};
 ghost use Rattle.script_text.specs.Fits.{is_fit};
 ghost use Rattle.scripts.specs.Laws.{AreOrderly, Histories};
 
-use crate::laws::{scripts_are_lawful, scripts_are_pooled, scripts_are_runs};
+use crate::laws::{lines_are_replies, scripts_are_lawful, scripts_are_pooled, scripts_are_runs};
 use feature_lines::Licence;
 use options_machine::{denials_name_their_line, no_seat_is_left};
 use options_text::Options;
@@ -19,7 +19,7 @@ fn tell_orderly(options: &[Options])
 }
 
 /// What a script makes at the pools of a licence: histories, one for each pool, each a run of the pool's rule sets in a
-/// lawful state. It changes nothing: a call tells it to the caller's proof.
+/// lawful state, and the output lines are replies of their entries. It changes nothing: a call tells it to the caller's proof.
 pub(crate) fn tell_histories(licence: &Licence, options: &[Options], lines: &[ScriptLine])
     requires fit { list_all is_fit lines.now ≡ true }
     requires some { 0 < length options.now }
@@ -31,6 +31,7 @@ pub(crate) fn tell_histories(licence: &Licence, options: &[Options], lines: &[Sc
     scripts_are_pooled();
     scripts_are_runs();
     scripts_are_lawful();
+    lines_are_replies();
     denials_name_their_line();
     no_seat_is_left();
     let _ = lines;

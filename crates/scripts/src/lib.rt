@@ -7,12 +7,12 @@ mod fault;
 mod histories;
 mod laws;
 mod making;
+mod nowhere;
 mod playing;
+mod reporting;
 mod routing;
 
 pub use fault::PlayFault;
-pub use laws::{scripts_are_lawful, scripts_are_pooled, scripts_are_runs};
+pub use laws::{lines_are_replies, scripts_are_lawful, scripts_are_pooled, scripts_are_runs};
 pub use playing::play;
-
-#[cfg(test)]
-mod tests;
+pub use reporting::report_script;

@@ -8,7 +8,8 @@ use crate::desk::{Desk, PARTIES};
 use feature_lines::Pool;
 use lic_types::NoMemory;
 use options_text::Options;
-use policy::{DeskRules, PlainBook};
+use policy::DeskRules;
+use seat_book::Book;
 use std::alloc::Global;
 
 /// The rule sets of a pool, one for each options file.
@@ -29,7 +30,7 @@ fn make_desk(alloc: Global, pool: &Pool, options: &[Options]) -> Result<Desk, No
     ensures { IfOk result (λ desk. desk ≡ desk_of options.now pool.now) }
 {
     let sets = sets_of(alloc, pool, options)?;
-    let book = PlainBook::make_many(alloc, sets, PARTIES)?;
+    let book = Book::make_many(alloc, sets, PARTIES)?;
     Ok(Desk {
         pool: *pool,
         book,

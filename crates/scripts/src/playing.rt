@@ -108,7 +108,7 @@ fn play_request<O: Sink>(
 }
 
 /// Plays a line: makes its entries, and writes its output line.
-fn play_line<O: Sink>(
+pub(crate) fn play_line<O: Sink>(
     licence: &Licence,
     sets: usize,
     desks: &mut [Desk],

@@ -161,6 +161,13 @@ impl Book {
         self.parts.seats.get(party)
     }
 
+    /// All seats, in order of party. The one error is want of memory.
+    pub fn holders(&self, alloc: Global) -> Result<Vec<Holder>, NoMemory>
+        ensures { IfOk result (λ list. list.items ≡ self.now.state.holders) }
+    {
+        self.parts.seats.list(alloc)
+    }
+
     /// How many seats linger.
     pub fn lingering(&self) -> u32
         ensures { result ≡ length self.now.state.lingering }
@@ -181,6 +188,13 @@ impl Book {
         ensures few { result ≤ 256 }
     {
         self.parts.queue.len() as u32
+    }
+
+    /// The parties that wait, in the order in which they came, each with its client.
+    pub fn queue(&self) -> &[Queuer]
+        ensures { result.now ≡ self.now.state.queue }
+    {
+        self.parts.queue.as_slice()
     }
 
     /// The party that waits at a place of the queue, from 0, with its client; None exactly where there are no more than `at`.

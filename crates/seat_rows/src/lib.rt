@@ -10,11 +10,10 @@ ghost use Rattle.options_machine.specs.declared.rows.Holder.{Holder};
 ghost use Rattle.options_machine.specs.State.{is_holder};
 ghost use Rattle.options_machine.specs.Settle.{with_holder};
 ghost use Rattle.options_machine.specs.Apply.{told_if};
+ghost use Rattle.seat_rows.specs.Rows.{holders_in};
 ghost use Rattle.seat_rows.specs.Seats.{IsSeatList, charged_if, is_heard};
 
 mod beats;
-#[cfg(test)]
-mod tests;
 
 use beats::{add_beat, drop_beat, move_beat};
 use linger_clock::Clock;
@@ -42,6 +41,19 @@ impl Model for SeatRows {
     ghost view = { λ s. seat_list s.rows.items };
 
     ghost invariant = { λ s. AreKept s.rows.items s.held s.beats };
+}
+
+/// The holders in rows, one after another. The one error is want of memory.
+fn holders_in(alloc: Global, rows: &[Option<Holder>]) -> Result<Vec<Holder>, NoMemory>
+    ensures { IfOk result (λ list. list.items ≡ holders_in rows.now) }
+{
+    let mut list = Vec::new(alloc);
+    for row in rows {
+        if let Some(holder) = row {
+            list.push(*holder)?;
+        }
+    }
+    Ok(list)
 }
 
 impl SeatRows {
@@ -89,6 +101,13 @@ impl SeatRows {
         ensures kept { IsSeatList self.now }
     {
         self.rows[party as usize]
+    }
+
+    /// All seats, in order of party. The one error is want of memory.
+    pub fn list(&self, alloc: Global) -> Result<Vec<Holder>, NoMemory>
+        ensures { IfOk result (λ list. list.items ≡ self.now.holders) }
+    {
+        holders_in(alloc, self.rows.as_slice())
     }
 
     /// Gives a party that has none this seat.

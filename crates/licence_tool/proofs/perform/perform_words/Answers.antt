@@ -6,7 +6,7 @@ pub returns-in-Some-Replay-clause-says : goal.returns-in-Some-Replay-clause-says
 returns-in-Some-Replay-clause-says g c =
     let names = c.in-Some-Replay.names in
     rw c.status_of-in-Some-Replay.ensures
-    (for_replay _ (g.F.Files.contents c.args.files.now) names.licence.now names.options.now names.third.now string_bytes names.more.now _ _ _ _ _ (rw c.in-Some-Replay.field-0-is at c.in-Some-Replay.ensures.command) c.replay.ensures.says)
+    (for_replay _ _ (g.F.Files.contents c.args.files.now) names.licence.now names.options.now names.third.now string_bytes names.more.now _ _ _ _ _ (rw c.in-Some-Replay.field-0-is at c.in-Some-Replay.ensures.command) c.replay.ensures.says)
 
 pub returns-in-Some-Audit-clause-says : goal.returns-in-Some-Audit-clause-says
 returns-in-Some-Audit-clause-says g c =

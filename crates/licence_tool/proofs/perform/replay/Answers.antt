@@ -12,7 +12,7 @@ pub returns-in_err-licence-clause-says : goal.returns-in_err-licence-clause-says
 returns-in_err-licence-clause-says g c =
     let p = err_from_is_err_and c.from_residual.result c.from_residual.ensures.1 in
     let l = c.in_err-licence.ensures.says in
-    rw (p.1, p.2) (replay_first _ _ _ _ _ l.reading l.is l.says)
+    rw (p.1, p.2) (replay_first _ _ _ _ _ _ l.reading l.is l.says)
 
 pub returns-in_err-options-clause-says : goal.returns-in_err-options-clause-says
 returns-in_err-options-clause-says g c =
@@ -24,7 +24,7 @@ returns-in_err-options-clause-says g c =
     let f2 = length (g.F.Files.failed c.read_options_file.new.files) in
     let later1 = c.in_ok-licence.ensures.later in
     let later2 = c.in_err-options.ensures.later in
-    rw (p.1, p.2) (replay_second _ _ _ _ _ l.reading o.reading c.in_ok-licence.licence
+    rw (p.1, p.2) (replay_second _ _ _ _ _ _ l.reading o.reading c.in_ok-licence.licence
     (wider _ _ _ _ l.reading refl (rises f0 f0 f1 f2 (omega arith) later2) l.is)
     (wider _ _ _ _ o.reading (c.in_ok-licence.ensures.same c.args.options.now) (rises f0 f1 f2 f2 later1 (omega arith)) o.is)
     l.says (refusal_wider _ _ _ _ (rises f0 f1 f2 f2 later1 (omega arith)) o.says))
@@ -42,7 +42,7 @@ returns-in_err-script-clause-says g c =
     let later1 = c.in_ok-licence.ensures.later in
     let later2 = c.in_ok-options.ensures.later in
     let later3 = c.in_err-script.ensures.later in
-    rw (p.1, p.2) (replay_third _ _ _ _ _ l.reading o.reading s.reading c.in_ok-licence.licence c.in_ok-options.options
+    rw (p.1, p.2) (replay_third _ _ _ _ _ _ l.reading o.reading s.reading c.in_ok-licence.licence c.in_ok-options.options
     (wider _ _ _ _ l.reading refl (rises f0 f0 f1 f3 (omega arith) (omega (arith, later2, later3))) l.is)
     (wider _ _ _ _ o.reading (c.in_ok-licence.ensures.same c.args.options.now) (rises f0 f1 f2 f3 later1 later3) o.is)
     (wider _ _ _ _ s.reading (c.in_ok-options.ensures.same c.args.script.now ∙ c.in_ok-licence.ensures.same c.args.script.now) (rises f0 f2 f3 f3 (omega (arith, later1, later2)) (omega arith)) s.is)
@@ -71,7 +71,7 @@ returns-in_err-sets-clause-says g c =
     let contents3 = g.F.Files.contents c.read_script_file.new.files in
     let told = same_told (λ n. contents3 (string_bytes n)) (λ n. contents0 (string_bytes n)) c.args.more.now (λ n. same3 (string_bytes n) ∙ (same2 (string_bytes n) ∙ same1 (string_bytes n))) in
     let wide = rises f0 f3 f4 f4 (omega (arith, later1, later2, later3)) (omega arith) in
-    rw (p.1, p.2) (replay_fourth _ _ _ _ _ l.reading o.reading s.reading m.readings c.in_ok-licence.licence c.in_ok-options.options c.in_ok-script.script.items
+    rw (p.1, p.2) (replay_fourth _ _ _ _ _ _ l.reading o.reading s.reading m.readings c.in_ok-licence.licence c.in_ok-options.options c.in_ok-script.script.items
     (wider _ _ _ _ l.reading refl (rises f0 f0 f1 f4 (omega arith) (omega (arith, later2, later3, later4))) l.is)
     (wider _ _ _ _ o.reading (same1 c.args.options.now) (rises f0 f1 f2 f4 later1 (omega (arith, later3, later4))) o.is)
     (wider _ _ _ _ s.reading (same2 c.args.script.now ∙ same1 c.args.script.now) (rises f0 f2 f3 f4 (omega (arith, later1, later2)) later4) s.is)
@@ -100,7 +100,7 @@ returns-clause-says g c =
     let contents3 = g.F.Files.contents c.read_script_file.new.files in
     let told = same_told (λ n. contents3 (string_bytes n)) (λ n. contents0 (string_bytes n)) c.args.more.now (λ n. same3 (string_bytes n) ∙ (same2 (string_bytes n) ∙ same1 (string_bytes n))) in
     let wide = rises f0 f3 f4 f4 (omega (arith, later1, later2, later3)) (omega arith) in
-    replay_last _ _ _ _ _ _ l.reading o.reading s.reading m.readings c.in_ok-licence.licence c.in_ok-options.options c.in_ok-script.script.items c.in_ok-sets.sets.items
+    replay_last _ _ _ _ _ _ _ l.reading o.reading s.reading m.readings c.in_ok-licence.licence c.in_ok-options.options c.in_ok-script.script.items c.in_ok-sets.sets.items
     (wider _ _ _ _ l.reading refl (rises f0 f0 f1 f4 (omega arith) (omega (arith, later2, later3, later4))) l.is)
     (wider _ _ _ _ o.reading (same1 c.args.options.now) (rises f0 f1 f2 f4 later1 (omega (arith, later3, later4))) o.is)
     (wider _ _ _ _ s.reading (same2 c.args.script.now ∙ same1 c.args.script.now) (rises f0 f2 f3 f4 (omega (arith, later1, later2)) later4) s.is)
