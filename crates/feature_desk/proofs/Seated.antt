@@ -1,5 +1,5 @@
 -- A seat that was brought and entered, and steps towards one.
-use Rattle.std.proofs.Common.{◌≡◌, ℕ, ◌+◌, ◌<◌, Bool, true, false, cond, List, [], ◌∷◌, ◌++◌, length, ltb, refl, ap, sym, ◌∙◌, subst, length-append, None}
+use Rattle.std.proofs.Common.{◌≡◌, ℕ, ◌+◌, ◌<◌, Bool, true, false, ◌||◌, cond, arith, List, [], ◌∷◌, ◌++◌, length, ltb, refl, ap, sym, ◌∙◌, subst, length-append, None}
 use Rattle.std.proofs.lemmas.Bool.{lt-ltb}
 use Rattle.std.proofs.lemmas.List.Folds.{list_all-append}
 use Rattle.kex_core.specs.declared.place.Place.TheVariants.{Holding}
@@ -17,7 +17,7 @@ use Rattle.feature_desk.specs.declared.passes.Seating.{Seating}
 use Rattle.feature_desk.specs.declared.passes.Seating.TheVariants as seating
 use Rattle.feature_desk.specs.Sitters.{NotedView, Sitter}
 use Rattle.desk_book.specs.Askers.{Asker}
-use Rattle.feature_desk.specs.Sittings.{Agree, AreLow, Waits, pass_in}
+use Rattle.feature_desk.specs.Sittings.{Agree, AreLow, Sits, Waits, is_entering, is_hold, pass_in}
 use Rattle.feature_desk.specs.Seatings.{GoesOn, IsUnderWay, MatchedAs, Matches, Starts}
 use Rattle.feature_desk.proofs.Lasts.{last_of}
 
@@ -45,6 +45,32 @@ agrees_brought t c queued a h d w brings at table number place got low =
           let m : length (pass_in c).got + 1 ≡ _ = sym (ap (λ (b : Bool). length (pass_in c).got + cond b 1 0) brings) ∙ w.count in
           n ∙ m;
     }
+
+or_held : (b h : Bool) → (b ≡ true → h ≡ true) → (b || h) ≡ h
+or_held true h f = sym (f refl)
+or_held false h f = refl
+
+-- as many numbers more as seats that were brought
+got_more : (b h : Bool) (old new : SeatPass) → Matches b h old new → length new.got ≡ length old.got + cond b 1 0
+got_more true h old new (s, place, got) = ap length got ∙ length-append old.got (s ∷ [])
+got_more false true old new (there, same) = let e = ap (λ (p : SeatPass). length p.got) same in omega (arith, e)
+got_more false false old new (out, got) = let e = ap length got in omega (arith, e)
+
+-- whoever's seat was made to agree with an entry agrees with its entries
+pub agrees_so : (t : Asker) (c d : Chair) (queued : Bool) (a : Asked) (v : SeatsView) → Waits t c queued a → (pass_in c).table ≡ v → ((pass_in d).table ≡ (pass_in c).table) × ((pass_in d).number ≡ (pass_in c).number)
+    → Sits d × (is_entering d ≡ false) × (is_hold d ≡ (brings_seat a.reply || a.held)) → Matches (brings_seat a.reply) a.held (pass_in c) (pass_in d)
+    → (AreLow v.net.width (pass_in c).got → AreLow v.net.width (pass_in d).got) → Agree t d queued
+agrees_so t c d queued a v w at own (sits, rests, hold) matched low = record {
+  belong = record {
+    number = own.1 ∙ w.belong.number;
+    low = subst (λ (z : SeatsView). AreLow z.net.width (pass_in d).got) (sym (own.0 ∙ at)) (low (subst (λ (z : SeatsView). AreLow z.net.width (pass_in c).got) at w.belong.low));
+  };
+  sits = sits;
+  rests = rests;
+  held = hold ∙ (or_held (brings_seat a.reply) a.held w.brought ∙ w.held);
+  queued_is = w.queued_is;
+  count = got_more (brings_seat a.reply) a.held (pass_in c) (pass_in d) matched ∙ w.count;
+}
 
 -- a party that is not among the stages is through
 again_or_through : (t : SeatTurn) → (IsAgain t → IsThrough t → ⊥) × ((IsThrough t → ⊥) → IsAgain t)

@@ -1,37 +1,12 @@
 //! A pass of a desk as a counter.
-ghost use Rattle.std.specs.Prelude.{length};
-ghost use Rattle.counter.specs.Account.{Asking, Asks};
-ghost use Rattle.options_machine.specs.Run.{IsBelow};
-ghost use Rattle.options_machine.specs.Step.{set_asked};
 ghost use Rattle.feature_desk.specs.Sitters.{account_of, IsOf};
 
-use crate::desk::Desk;
+use crate::desk::{Desk, answers, standing};
 use crate::passes::{Chair, DeskPass};
-use core::mem::replace_with;
 use counter::{Asked, Counter, Glance};
 use lic_types::Client;
-use options_machine::Kind;
+use options_machine::{Kind, Request};
 use std::sync::Wait;
-
-impl Desk {
-    // Makes the entry of a request, and then the party's seat agree with it.
-    fn asked<R: Wait>(
-        &self,
-        rt: &R,
-        pass: DeskPass,
-        kind: Kind,
-        client: &Client,
-        moment: u64,
-    ) -> (DeskPass, Asked)
-        requires of { IsOf pass self.now }
-        requires fits { IsBelow (set_asked kind) (length (account_of pass).sets) }
-        ensures asks { (a : Asking) × Asks (account_of pass) (account_of result.0) kind client.now moment result.1 a }
-        ensures of { IsOf result.0 self.now }
-    {
-        let noted = self.enter_book(rt, pass, kind, client, moment);
-        self.match_seat(rt, noted)
-    }
-}
 
 impl Counter for DeskPass {
     type Desk = Desk;
@@ -48,11 +23,16 @@ impl Counter for DeskPass {
         client: &Client,
         moment: u64,
     ) -> Asked {
-        replace_with(
-            self,
-            (),
-            |pass, _none| desk.asked(rt, pass, kind, client, moment),
-        )
+        let request = Request {
+            party: self.ticket.number(),
+            client: *client,
+            kind,
+        };
+        let held = self.chair.is_hold();
+        let asked = desk.enter(rt, &mut self.ticket, &request, moment, held);
+        self.queued = standing(answers(&kind), asked.reply.is_of_queueing(), self.queued);
+        desk.reseat(rt, &mut self.chair, &asked);
+        asked
     }
 
     fn glance(&mut self, _desk: &Desk) -> Glance {

@@ -3,17 +3,18 @@ ghost use Rattle.std.specs.Prelude.{◌≡◌, ◌≤◌, length, if◌then◌el
 ghost use Rattle.std.specs.Option.{is_none};
 ghost use Rattle.options_machine.specs.declared.reply.Entry.{Entry};
 ghost use Rattle.options_machine.specs.Own.{is_of_holding, is_of_queueing};
-ghost use Rattle.options_machine.specs.Run.{IsBelow};
+ghost use Rattle.options_machine.specs.Run.{AsksForSet, IsBelow};
 ghost use Rattle.options_machine.specs.Step.{set_asked};
 ghost use Rattle.counter.specs.Account.{Enters, Extends};
 ghost use Rattle.desk_seats.specs.Passes.{held_at};
+ghost use Rattle.desk_book.specs.Askers.{Makes};
 ghost use Rattle.feature_desk.specs.Sitters.{account_of, IsOf};
 ghost use Rattle.feature_desk.specs.Sittings.{state_at};
 ghost use Rattle.stat_board.specs.Fronts.{IsSameBoard};
 
 use crate::passes::{Chair, DeskPass, DeskState, Noted};
 use counter::Asked;
-use desk_book::DeskBook;
+use desk_book::{BookPass, DeskBook};
 use desk_seats::DeskSeats;
 use lic_types::Client;
 use options_machine::{Kind, Request};
@@ -42,14 +43,14 @@ impl Model for Desk {
 }
 
 // Whether the reply to a request of this kind stands.
-fn answers(kind: &Kind) -> bool
+pub(crate) fn answers(kind: &Kind) -> bool
     ensures { result ≡ is_none (set_asked kind.now) }
 {
     kind.set_asked().is_none()
 }
 
 // The standing answer to a question, after a reply that answers it or does not.
-fn standing(answers: bool, now: bool, before: bool) -> bool
+pub(crate) fn standing(answers: bool, now: bool, before: bool) -> bool
     ensures { result ≡ (if answers then now else before) }
 {
     if answers { now } else { before }
@@ -86,20 +87,40 @@ impl Desk {
             client: *client,
             kind,
         };
-        let told = ticket.ask(rt, &self.turns, &request, moment);
-        let answers = answers(&kind);
-        let asked = Asked {
-            reply: told.answer,
-            place: told.place,
-            moment: told.used,
-            held: standing(answers, told.answer.is_of_holding(), chair.is_hold()),
-        };
-        let queued = standing(answers, told.answer.is_of_queueing(), queued);
+        let asked = self.enter(rt, &mut ticket, &request, moment, chair.is_hold());
+        let queued = standing(answers(&kind), asked.reply.is_of_queueing(), queued);
         Noted {
             ticket,
             chair,
             queued,
             asked,
+        }
+    }
+
+    // Makes the entry of a request of a party that held a seat before it or did not.
+    pub(crate) fn enter<R: Wait>(
+        &self,
+        rt: &R,
+        ticket: &mut BookPass,
+        request: &Request,
+        moment: u64,
+        held: bool,
+    ) -> Asked
+        requires lock { ticket.old.lock ≡ self.now.lock.id }
+        requires party { request.now.party ≡ ticket.old.number }
+        requires fits { AsksForSet ticket.old.law.sets request.now }
+        ensures same { (ticket.new.lock ≡ ticket.old.lock) × (ticket.new.number ≡ ticket.old.number) × (ticket.new.law ≡ ticket.old.law) }
+        ensures makes { (before : List Entry) × Makes ticket.old ticket.new moment result.place before (record { request = request.now; moment = result.moment; reply = result.reply }) }
+        ensures held { result.held ≡ (if is_none (set_asked request.now.kind) then is_of_holding result.reply else held) }
+        ensures board { (ticket.old.board ≤ ticket.new.board) × (ticket.new.board ≤ length ticket.new.seen) }
+        ensures known { Extends ticket.old.known.list ticket.new.known.list }
+    {
+        let told = ticket.ask(rt, &self.turns, request, moment);
+        Asked {
+            reply: told.answer,
+            place: told.place,
+            moment: told.used,
+            held: standing(answers(&request.kind), told.answer.is_of_holding(), held),
         }
     }
 }

@@ -10,6 +10,7 @@ ghost use Rattle.feature_desk.specs.Standing.{is_of_rereading};
 
 use crate::desk::Desk;
 use crate::passes::{Chair, DeskPass, Noted, Seating};
+use core::mem::replace_with;
 use counter::Asked;
 use desk_seats::SeatTurn;
 use options_machine::Reply;
@@ -89,6 +90,27 @@ impl Desk {
                 )
             }
         }
+    }
+
+    // Makes the chair agree, where it lies.
+    pub(crate) fn reseat<R: Wait>(&self, rt: &R, chair: &mut Chair, asked: &Asked)
+        requires own { (pass_in chair.old).table ≡ self.now.seats }
+        requires sits { Sits chair.old }
+        requires way { is_entering chair.old ≡ true → brings_seat asked.now.reply ≡ true }
+        requires stays { brings_seat asked.now.reply ≡ false → asked.now.held ≡ true → is_hold chair.old ≡ true }
+        ensures own { ((pass_in chair.new).table ≡ (pass_in chair.old).table) × ((pass_in chair.new).number ≡ (pass_in chair.old).number) }
+        ensures sits { Sits chair.new × (is_entering chair.new ≡ false) × (is_hold chair.new ≡ (brings_seat asked.now.reply || asked.now.held)) }
+        ensures matched { Matches (brings_seat asked.now.reply) asked.now.held (pass_in chair.old) (pass_in chair.new) }
+        ensures low { AreLow self.now.seats.net.width (pass_in chair.old).got → AreLow self.now.seats.net.width (pass_in chair.new).got }
+        ensures goes { Goes (pass_in chair.old) (pass_in chair.new) }
+    {
+        let brings = brings_seat(&asked.reply);
+        let held = asked.held;
+        replace_with(
+            chair,
+            (),
+            |chair, _none| (self.seated(rt, chair, brings, held), ()),
+        );
     }
 
     // The chair that agrees.

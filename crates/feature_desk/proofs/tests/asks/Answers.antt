@@ -1,4 +1,0 @@
-use Rattle.feature_desk.proofs.tests.asks.Goals as goal
-
-pub returns : goal.returns
-returns g c = c.ask.ensures.same_desk c.args.desk.now c.requires.of

@@ -1,5 +1,0 @@
-use Rattle.feature_desk.specs.Sitters.{IsOf}
-use Rattle.feature_desk.proofs.tests.check_out.Given as goal
-
-abbrev pub invariant-loop : goal.invariant-loop
-invariant-loop g l = (goal.iterator-loop g).can_next l.iterator' × (goal.iterator-loop g).is_finite l.iterator' × IsOf l.pass l.desk
