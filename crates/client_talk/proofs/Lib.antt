@@ -1,0 +1,3 @@
+pub mod Heardings
+pub mod Showings
+pub mod Talkings

@@ -1,0 +1,9 @@
+pub mod Errands
+pub mod Exchange
+pub mod Hearing
+pub mod Keeping
+pub mod Replies
+pub mod Requests
+pub mod Running
+pub mod Table
+pub mod Talks

@@ -1,0 +1,42 @@
+//! Why an errand isn't done.
+use crate::lost::Lost;
+use crate::request::Request;
+use line_protocol::{Feeder, WireFault};
+use std::alloc::AllocError;
+
+/// A request and the reply to it, which isn't what the request asks for.
+#[derive(Drop)]
+pub struct Refusal {
+    /// The request.
+    pub request: Request,
+    /// The reply.
+    pub reply: Feeder,
+}
+
+/// Why an errand isn't done.
+#[derive(Drop)]
+pub enum Cause {
+    /// No reply came.
+    Lost(Lost),
+    /// A reply came that isn't what was asked for.
+    Refused(Refusal),
+    /// This reply to a GLANCE has no numbers.
+    NoNumbers(Feeder),
+    /// The words make no request of the protocol, for this fault.
+    NoRequest(WireFault),
+    /// There was too little memory.
+    NoMemory,
+    /// Standard output didn't take all of it.
+    WriteFault,
+}
+
+impl From<AllocError> for Cause {
+    ghost use Rattle.std.specs.Prelude.{◌≡◌};
+    ghost use Rattle.client_talk.specs.declared.cause.Cause.TheVariants.{NoMemory};
+
+    ghost from_gives = { λ _ made. made ≡ NoMemory };
+
+    fn from(_failed: AllocError) -> Cause {
+        Cause::NoMemory
+    }
+}

@@ -1,0 +1,22 @@
+//! Why no reply comes.
+use thiserror::Error;
+
+/// Why no reply comes to a line.
+#[derive(Clone, Copy, Debug, PartialEq, Eq, Error)]
+pub enum Lost {
+    /// The line couldn't be written whole, or a read failed.
+    #[error("link fault")]
+    Fault,
+    /// The daemon closed the link.
+    #[error("link closed")]
+    Closed,
+    /// Nothing came in 30 reads in which the link was Quiet.
+    #[error("no reply")]
+    Silent,
+    /// What came is no line of at most 1,024 bytes, or more than one.
+    #[error("not a reply")]
+    Garbled,
+    /// Bytes came while nothing was asked.
+    #[error("an unasked reply")]
+    Unasked,
+}

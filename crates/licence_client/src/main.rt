@@ -1,0 +1,182 @@
+//! A client of the licence daemon: asks one request, shows the desks of features, or holds a seat.
+#![tactic(auto)]
+
+mod asking;
+mod ending;
+mod errands;
+mod input;
+
+use crate::asking::{Defaults, Said, client_command, refused, said_in};
+use crate::ending::{End, end_line};
+use crate::errands::errand_of;
+use crate::input::bell_at_end;
+use clap::{ArgMatches, Error};
+use client_talk::{Cause, Errand, run};
+use outside::{RealSink, Sink};
+use session_outside::{Clock, StillBell};
+use std::alloc::Global;
+use std::env;
+use std::io::Read;
+use std::net::Net;
+use std::os::unix::net::UnixStream;
+use std::process::ExitCode;
+use std::rt::Env;
+use std::thread::Threads;
+use unix_site::{SystemClock, UnixLink};
+
+/// How an errand ends whose link is there.
+fn end_of(done: Result<(), Cause>) -> End {
+    match done {
+        Ok(()) => End::Done,
+        Err(cause) => End::Stopped(cause),
+    }
+}
+
+/// Connects and does what is asked for. `hold` keeps its seat until the input ends.
+fn perform<R: Net + Threads, K: Clock, I: Read + Send + Drop + 'static, O: Sink>(
+    rt: &R,
+    alloc: Global,
+    said: &Said<'_>,
+    errand: &Errand<'_>,
+    clock: &mut K,
+    input: I,
+    out: &mut O,
+) -> End {
+    let Ok(stream) = UnixStream::connect(rt, said.socket) else {
+        return End::NoDaemon;
+    };
+    let Ok(mut link) = UnixLink::over(stream) else {
+        return End::NoDaemon;
+    };
+    let link = &mut link;
+    let client = &said.client;
+    if matches!(errand, Errand::Hold(_, _, _)) {
+        match bell_at_end(rt, alloc, input) {
+            Some(mut bell) => end_of(run(alloc, errand, client, link, clock, &mut bell, out)),
+            None => End::Stopped(Cause::NoMemory),
+        }
+    } else {
+        let mut bell = StillBell::make();
+        end_of(run(alloc, errand, client, link, clock, &mut bell, out))
+    }
+}
+
+/// Shows a text that was asked for.
+fn show<O: Sink>(text: &str, out: &mut O) -> End {
+    match out.write(text.as_bytes()) {
+        Ok(()) => End::Done,
+        Err(_) => End::Stopped(Cause::WriteFault),
+    }
+}
+
+/// The words of the command line behind the program's name.
+fn words_of<R: Env + AllocGlobal>(rt: &R) -> Result<Vec<String>, End> {
+    let mut words = Vec::new(rt.alloc());
+    let Ok(mut args) = env::args(rt) else {
+        return Err(End::Usage);
+    };
+    let _ = args.next();
+    for word in args {
+        if words.push(word).is_err() {
+            return Err(End::Stopped(Cause::NoMemory));
+        }
+    }
+    Ok(words)
+}
+
+/// What the environment says of who asks.
+fn defaults<R: Env + AllocGlobal>(rt: &R) -> Defaults {
+    Defaults {
+        user: env::var(rt, "USER").ok(),
+        host: env::var(rt, "HOSTNAME").ok(),
+        display: env::var(rt, "DISPLAY").ok(),
+        project: env::var(rt, "LM_PROJECT").ok(),
+    }
+}
+
+/// Does what words ask for that clap takes.
+fn follow<R: Net + Threads, K: Clock, I: Read + Send + Drop + 'static, O: Sink>(
+    rt: &R,
+    alloc: Global,
+    said: &Said<'_>,
+    clock: &mut K,
+    input: I,
+    out: &mut O,
+) -> End {
+    match errand_of(said.command, said.words.as_slice(), said.every) {
+        Some(errand) => perform(rt, alloc, said, &errand, clock, input, out),
+        None => End::Usage,
+    }
+}
+
+/// Tells what comes of words that clap doesn't take.
+fn tell<O: Sink>(alloc: Global, error: &Error, out: &mut O) -> End {
+    match refused(alloc, error) {
+        Ok(text) => show(text.as_str(), out),
+        Err(end) => end,
+    }
+}
+
+/// Does what words ask for.
+fn obey<'a, R: Net + Threads, K: Clock, I: Read + Send + Drop + 'static, O: Sink>(
+    rt: &R,
+    alloc: Global,
+    words: &'a [String],
+    defaults: &'a Defaults,
+    clock: &mut K,
+    input: I,
+    out: &mut O,
+) -> End {
+    match client_command(alloc) {
+        Ok(command) => match command.try_get_matches_from(words) {
+            Ok(matches) => match said_in(alloc, &matches, defaults) {
+                Ok(said) => follow(rt, alloc, &said, clock, input, out),
+                Err(end) => end,
+            },
+            Err(error) => tell(alloc, &error, out),
+        },
+        Err(_) => End::Stopped(Cause::NoMemory),
+    }
+}
+
+/// Does what the words of the command line ask for.
+fn client<R: Env + Net + Threads + AllocGlobal, K: Clock, I: Read + Send + Drop + 'static, O: Sink>(
+    rt: &R,
+    clock: &mut K,
+    input: I,
+    out: &mut O,
+) -> End {
+    match words_of(rt) {
+        Ok(words) => {
+            let defaults = defaults(rt);
+            obey(
+                rt,
+                rt.alloc(),
+                words.as_slice(),
+                &defaults,
+                clock,
+                input,
+                out,
+            )
+        }
+        Err(end) => end,
+    }
+}
+
+fn main(rt: HostRuntime) -> ExitCode {
+    let alloc = rt.alloc();
+    let mut out = RealSink::of(rt.stdout());
+    let mut err = RealSink::of(rt.stderr());
+    let mut clock = SystemClock::of(rt);
+    let end = client(&rt, &mut clock, rt.stdin(), &mut out);
+    let code = end.code();
+    match end_line(alloc, &end) {
+        Ok(line) => {
+            let _ = err.write(line.as_slice());
+        }
+        Err(_) => {
+            let _ = err.write(b"no memory\n");
+        }
+    }
+    ExitCode::from(code)
+}
