@@ -1,5 +1,5 @@
-mod Dealing
+pub mod Dealing
 mod Ending
-mod Joining
-mod Splitting
-mod Unserved
+pub mod Joining
+pub mod Splitting
+pub mod Unserved

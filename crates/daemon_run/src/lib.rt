@@ -18,6 +18,3 @@ pub use running::run;
 pub use serving::serve_all;
 pub use whole::serve;
 pub use worker::Worker;
-
-#[cfg(test)]
-mod tests;

@@ -1,0 +1,2 @@
+mod TrialOffice
+mod Trying

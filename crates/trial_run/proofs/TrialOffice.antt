@@ -1,0 +1,84 @@
+-- What is known of the office of a trial, and of its clients.
+use Rattle.std.proofs.Common.{◌≡◌, ◌∙◌, ℕ, ◌<◌, ◌++◌, ◌∷◌, [], List, Vec, Global, length, map, get_or, reverse, append_assoc, ap, refl, sym, subst, arith}
+use Rattle.std.proofs.lemmas.List.{map-append, reverse-append}
+use Rattle.daemon_run.specs.Join.{HasSets}
+use Rattle.door_worker.specs.Visits.{Visit}
+use Rattle.feature_desk.specs.Sitters.{DeskView, Sitter, account_of, newcomer}
+use Rattle.feature_lines.specs.declared.pool.Pool.{Pool}
+use Rattle.licence_office.specs.Offices.{IsDeskFor}
+use Rattle.office_view.specs.View.{View}
+use Rattle.options_text.specs.Options.{OptionsFile}
+use Rattle.session.specs.Session.{setup_of}
+use Rattle.session.specs.Table.{Setup}
+use Rattle.trial_run.specs.Played.{counters_of}
+use Rattle.trial_run.specs.Tried.{IsPlayed, Tried, trial_setup}
+use Rattle.trial_run.specs.declared.player.Player.{Player}
+use Rattle.trial_run.specs.declared.player.Trial.{Trial}
+use Rattle.trial_terms.specs.Terms.{no_options, trial_pool}
+
+module _ (office : View DeskView) (pools : List Pool) (file : OptionsFile) (n seats : ℕ) (terms : pools ≡ trial_pool seats ∷ []) (empty : file ≡ no_options) (pools_are : office.pools ≡ pools) (sets_are : office.sets ≡ 1)
+    (desks_are : (j : ℕ) (p : Pool) (d : DeskView) → j < length pools → IsDeskFor (file ∷ []) n (get_or pools j p) (get_or office.desks j d)) where
+  pub one_pool : length office.pools ≡ 1
+  one_pool = ap length (pools_are ∙ terms)
+
+  -- its desk has one rule set
+  pub has_sets : HasSets office
+  has_sets = λ j d l.
+      let m : j < length pools = subst (λ (ps : List Pool). j < length ps) pools_are l in
+      ap length (desks_are j (trial_pool seats) d m).rules ∙ sym sets_are
+
+  -- its desk is the trial's
+  pub desk_is : (d : DeskView) → IsDeskFor (no_options ∷ []) n (trial_pool seats) (get_or office.desks 0 d)
+  desk_is d =
+      let pool = trial_pool seats in
+      let is = desks_are 0 pool d (subst (λ (ps : List Pool). 0 < length ps) (sym terms) (omega arith)) in
+      subst (λ (f : OptionsFile). IsDeskFor (f ∷ []) n pool (get_or office.desks 0 d)) empty
+      (subst (λ (ps : List Pool). IsDeskFor (file ∷ []) n (get_or ps 0 pool) (get_or office.desks 0 d)) terms is)
+
+  one_party : (p : ℕ) (desks : List DeskView) → length desks ≡ 1 → map (λ (s : Sitter). (account_of s).party) (map (λ (desk : DeskView). newcomer desk p) desks) ≡ p ∷ []
+  one_party p [] l = absurd (omega arith)
+  one_party p (d ∷ []) l = refl
+  one_party p (d ∷ e ∷ desks) l = absurd (omega arith)
+
+  -- what its clients' sessions stand on
+  pub same_setup : length office.desks ≡ 1 → (p : ℕ) → setup_of account_of office (map (λ (desk : DeskView). newcomer desk p) office.desks) ≡ trial_setup seats p
+  same_setup one p =
+      let numbers = one_party p office.desks one in
+      ap (λ (ps : List Pool). record { pools = ps; sets = office.sets; parties = map (λ (s : Sitter). (account_of s).party) (map (λ (desk : DeskView). newcomer desk p) office.desks) }) (pools_are ∙ terms)
+      ∙ (ap (λ (k : ℕ). record { pools = trial_pool seats ∷ []; sets = k; parties = map (λ (s : Sitter). (account_of s).party) (map (λ (desk : DeskView). newcomer desk p) office.desks) }) sets_are
+      ∙ ap (λ (l : List ℕ). record { pools = trial_pool seats ∷ []; sets = 1; parties = l }) numbers)
+
+-- a trial of equal setups
+pub tried_as : (desk : DeskView) (setup other : ℕ → Setup) (n clients : ℕ) (kept : List Visit → Type 0) (trial : Trial) → n ≡ clients → ((p : ℕ) → setup p ≡ other p) → Tried desk setup n kept trial → Tried desk other clients kept trial
+tried_as desk setup other n clients kept trial e same t = record {
+  sessions = t.sessions;
+  history = t.history;
+  clients_are = t.clients_are ∙ e;
+  played = λ p v l. subst (λ (o : Setup). IsPlayed o (get_or t.sessions p v)) (same p) (t.played p v (subst (λ (k : ℕ). p < k) (sym e) l));
+  keeps = t.keeps;
+  joined = t.joined;
+  grants_are = t.grants_are;
+  uses_are = t.uses_are;
+}
+
+-- one more client took the last of the counters
+pub seated_more : (rest all dealt : List (Vec Sitter Global)) (players : List Player) (p : Player) → all ≡ rest ++ p.counters ∷ [] → all ++ reverse (counters_of players) ≡ dealt → rest ++ reverse (counters_of (players ++ p ∷ [])) ≡ dealt
+seated_more rest all dealt players p e h =
+    ap (λ ps. rest ++ reverse ps) (map-append (λ (x : Player). x.counters) players (p ∷ []))
+    ∙ ap (λ ps. rest ++ ps) (reverse-append (counters_of players) (p.counters ∷ []))
+    ∙ sym (append_assoc rest (p.counters ∷ []) (reverse (counters_of players)))
+    ∙ ap (λ ps. ps ++ reverse (counters_of players)) (sym e)
+    ∙ h
+
+-- the counters of clients in the other order
+pub counters_back : (players : List Player) → counters_of (reverse players) ≡ reverse (counters_of players)
+counters_back [] = refl
+counters_back (p ∷ players) =
+    ap counters_of (reverse-append (p ∷ []) players)
+    ∙ map-append (λ (x : Player). x.counters) (reverse players) (p ∷ [])
+    ∙ ap (λ ps. ps ++ p.counters ∷ []) (counters_back players)
+    ∙ sym (reverse-append (p.counters ∷ []) (counters_of players))
+
+-- where no counters are left, all clients have them
+pub all_seated : (left dealt : List (Vec Sitter Global)) (players : List Player) → left ≡ [] → left ++ reverse (counters_of players) ≡ dealt → counters_of (reverse players) ≡ dealt
+all_seated left dealt players none h = counters_back players ∙ subst (λ ps. ps ++ reverse (counters_of players) ≡ dealt) none h

@@ -1,0 +1,4 @@
+pub mod Closed
+pub mod Fresh
+pub mod Played
+pub mod Tried

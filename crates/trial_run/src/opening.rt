@@ -1,0 +1,93 @@
+//! A whole trial.
+ghost use Rattle.std.specs.Prelude.{◌≡◌, ◌<◌, ◌≤◌, ◌∷◌, ℕ, [], All, Err, IfOk, length, vec_capacity, vec_len};
+ghost use Rattle.daemon_run.specs.Gives.{kept_from, no_sessions};
+ghost use Rattle.feature_desk.specs.Sitters.{DeskView};
+ghost use Rattle.licence_office.specs.Offices.{IsDeskFor};
+ghost use Rattle.session_outside.specs.Talk.{Follows, HasRisen};
+ghost use Rattle.trial_terms.specs.Terms.{no_options, trial_pool};
+ghost use Rattle.trial_run.specs.Fresh.{IsFresh};
+ghost use Rattle.trial_run.specs.Played.{counters_of};
+ghost use Rattle.trial_run.specs.Tried.{Tried, kept_of, trial_setup};
+
+use crate::failure::TrialFailed;
+use crate::holding::hold;
+use crate::player::{Player, Trial};
+use daemon_outside::Site;
+use licence_office::{Office, OfficePass};
+use std::alloc::{AllocError, Global};
+use std::sync::Wait;
+use std::thread::Threads;
+use trial_link::TrialLink;
+use trial_terms::{trial_licence, trial_options};
+
+/// The links of so many clients, in the order of their numbers, each of which plays so many rounds.
+fn links(alloc: Global, clients: u32, rounds: u32) -> Result<Vec<TrialLink>, AllocError>
+    requires { 0 < rounds }
+    ensures count { IfOk result (λ links. vec_len links ≡ clients) }
+    ensures fresh { IfOk result (λ links. All IsFresh links.items) }
+{
+    let mut links = Vec::with_capacity(alloc, clients as usize)?;
+    for number in 0..clients {
+        let link = TrialLink::make(alloc, number, rounds)?;
+        links.push_reserved(link);
+    }
+    Ok(links)
+}
+
+/// Gives each client its party's counters and its link, in order. It takes no memory.
+fn seat(passes: &mut Vec<OfficePass>, mut links: Vec<TrialLink>, players: &mut Vec<Player>)
+    requires same { vec_len passes.old ≡ vec_len links }
+    requires fresh { All IsFresh links.items }
+    requires empty { players.old.items ≡ [] }
+    requires room { vec_len passes.old ≤ vec_capacity players.old }
+    ensures counters { counters_of players.new.items ≡ passes.old.items }
+    ensures fresh { All (λ w. IsFresh w.link) players.new.items }
+    ensures count { vec_len players.new ≡ vec_len passes.old }
+    ensures empty { passes.new.items ≡ [] }
+    ensures room { vec_capacity passes.new ≡ vec_capacity passes.old }
+{
+    while let Some(counters) = passes.pop() {
+        let Some(link) = links.pop() else {
+            unreachable!()
+        };
+        players.push_reserved(Player { counters, link });
+    }
+    players.reverse();
+}
+
+/// Holds a trial: so many clients, 2 to 256, each of which takes one of so many seats, 1 to 65,535, and gives it back, for so
+/// many rounds, 1 to 10,000. Each client has one session over a link in memory, all of them at once, each in a thread of its own
+/// where one can be made, at a post of the site of its own, of which the clock, the gate and the bell are used. It tells how many
+/// replies brought a seat, and how often the cards of the seats were used, by the close of the office.
+///
+/// `NoMemory` comes before any post is made, `SiteFault` only where the site had no post for a client, and before any session.
+/// Every post is given back, however it ends. The trial is this project's own.
+pub fn try_out<R: Threads + Wait + Sync, T: Site>(
+    rt: &R,
+    alloc: Global,
+    clients: u32,
+    seats: u32,
+    rounds: u32,
+    site: &mut T,
+) -> Result<Trial, TrialFailed>
+    requires clients { (2 ≤ clients) × (clients ≤ 256) }
+    requires seats { (1 ≤ seats) × (seats ≤ 65535) }
+    requires rounds { (1 ≤ rounds) × (rounds ≤ 10000) }
+    // Every post is given back.
+    ensures posted { T.posted site.new ≡ T.posted site.old }
+    ensures no_memory { result ≡ Err TrialFailed.NoMemory → site.new ≡ site.old }
+    ensures site_fault { result ≡ Err TrialFailed.SiteFault → HasRisen (T.faults site.old) (T.faults site.new) × ((posts : ℕ) × Follows T.keeps site.old site.new (kept_from (T.made site.old) (no_sessions posts))) }
+    // There is one history, a run of the pool's rules, of which each client's one session is the part of its party.
+    ensures tried { IfOk result (λ trial. (desk : DeskView) × IsDeskFor (no_options ∷ []) clients (trial_pool seats) desk × Tried desk (trial_setup seats) clients
+        (λ sessions. Follows T.keeps site.old site.new (kept_of (T.made site.old) sessions)) trial) }
+{
+    let room = clients as usize;
+    let licence = trial_licence(alloc, seats)?;
+    let options = trial_options(alloc)?;
+    let links = links(alloc, clients, rounds)?;
+    let mut players = Vec::with_capacity(alloc, room)?;
+    let workers = Vec::with_capacity(alloc, room)?;
+    let (office, mut passes) = Office::make(rt, alloc, &licence, &options, clients)?;
+    seat(&mut passes, links, &mut players);
+    Ok(hold(rt, office, players, workers, passes, site)?)
+}

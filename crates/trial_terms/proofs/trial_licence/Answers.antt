@@ -1,0 +1,17 @@
+use Rattle.std.proofs.Common.{◌∙◌, ap, length, arith}
+use Rattle.trial_terms.proofs.Reading.{fault_of_text, read_of, short}
+use Rattle.trial_terms.proofs.trial_licence.Goals as goal
+use Rattle.trial_terms.proofs.trial_licence.Goals.{in-NoMemory, in_default}
+
+pub read_licence-requires : goal.read_licence-requires
+read_licence-requires c =
+    let long = short c.args.seats (omega (arith, c.requires.1)) c.requires.1 in
+    omega (arith, ap length (c.as_bytes.ensures.value ∙ c.in_ok-text.ensures), long)
+
+pub returns-in-Ok : goal.returns-in-Ok
+returns-in-Ok c = read_of c.args.seats c.as_bytes.result.now c.read_licence.result c.requires.0 c.requires.1 (c.as_bytes.ensures.value ∙ c.in_ok-text.ensures) c.read_licence.ensures c.in-Ok.licence c.in-Ok.is
+
+pub prove-unreachable-requires : goal.prove-unreachable-requires
+prove-unreachable-requires c =
+    let memory = fault_of_text c.args.seats c.as_bytes.result.now c.read_licence.result c.requires.0 c.requires.1 (c.as_bytes.ensures.value ∙ c.in_ok-text.ensures) c.read_licence.ensures c.in-Err.fault c.in-Err.is in
+    elim c.match-matches.branch [ in-NoMemory w ↦ absurd (cc) | in_default w ↦ absurd (w.in_default.not-NoMemory memory) ]
