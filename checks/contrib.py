@@ -29,10 +29,17 @@ licence_entries{feature="draw"} 2
 """
 
 COMPLETIONS = (
-    ("licence_main ''", "serve check replay audit usage"),
-    ("licence_main re", "replay"),
+    ("licence_main ''", "serve check replay report audit usage trial-threads"),
+    ("licence_main trial-threads 4", ""),
+    ("licence_main re", "replay report"),
     ("licence_main serve licence", ""),
     ("licence_main lend", ""),
+    ("licence_client ''", ""),
+    ("licence_client socket ''", "ask status hold reread shutdown"),
+    ("licence_client --user ann socket s", "status shutdown"),
+    ("licence_client --user = ann socket s", "status shutdown"),
+    ("licence_client --user s", ""),
+    ("licence_client socket status e", ""),
 )
 
 UNIT = "contrib/licence_main.service"
@@ -104,8 +111,8 @@ def installed(program):
 
 def completion(_):
     for words, wanted in COMPLETIONS:
-        at = len(words.split()) - 1
-        script = f"COMP_WORDS=({words}) COMP_CWORD={at}; compopt() {{ :; }}; _licence_main licence_main; echo ${{COMPREPLY[*]}}"
+        program, at = words.split()[0], len(words.split()) - 1
+        script = f"COMP_WORDS=({words}) COMP_CWORD={at}; compopt() {{ :; }}; _{program} {program}; echo ${{COMPREPLY[*]}}"
         same(f"completion: {words}", run(["bash", "-c", f". contrib/licence_main.bash; {script}"]).stdout, wanted + "\n")
 
 

@@ -4,3 +4,4 @@ pub mod Hearing
 pub mod Ranging
 pub mod Reached
 pub mod ServeWords
+pub mod TrialEnding

@@ -80,7 +80,7 @@ same_setup {Z} terms parties office passes p v o lt =
     ∙ ap (λ (l : List ℕ). record { pools = terms.licence.pools; sets = length terms.sets; parties = l }) numbers)
 
 -- a history of a desk is one of its rule sets and its number of seats
-same_history : (sets : List Rules) (width j : ℕ) (desk : DeskView) (sessions : List (List Visit)) (history : List Entry) → desk.lock.law.sets ≡ sets → desk.seats.net.width ≡ width
+pub same_history : (sets : List Rules) (width j : ℕ) (desk : DeskView) (sessions : List (List Visit)) (history : List Entry) → desk.lock.law.sets ≡ sets → desk.seats.net.width ≡ width
     → run.IsHistory desk j sessions history → IsHistory sets width j sessions history
 same_history sets width j desk sessions history s w h = record {
   run = subst (λ (r : List Rules). IsRun r history) s h.run;

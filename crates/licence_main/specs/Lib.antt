@@ -4,3 +4,5 @@ pub mod Ends
 pub mod Serve
 pub mod Status
 pub mod Terms
+pub mod Trial
+pub mod TrialEnds

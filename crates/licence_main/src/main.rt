@@ -7,6 +7,8 @@ mod reading;
 mod serve_words;
 mod status;
 mod terms;
+mod trial;
+mod trial_words;
 
 use crate::program::licenced;
 use licence_tool::{Status, words_of, write_line};

@@ -185,6 +185,31 @@ fn other_numbers_of_sessions_are_no_command(rt: HostRuntime) -> Result<(), Fail>
 }
 
 #[test]
+fn a_trial_writes_its_numbers(rt: HostRuntime) -> Result<(), Fail> {
+    let mut site = site_of(rt.alloc(), Vec::new(rt.alloc()), Vec::new(rt.alloc()))?;
+    let ended = run(&rt, &["trial-threads", "2", "1", "3"], &mut site, &[])?;
+    assert_eq!(rt; ended.status, DaemonStatus::Tool(Status::Done));
+    assert_eq!(rt;
+        ended.out.as_slice(),
+        b"CLIENTS 2 SEATS 1 ROUNDS 3\nGRANTS 6\nCARD USES 6\n".as_slice()
+    );
+    assert!(rt; ended.err.is_empty());
+    assert_eq!(rt; (site.made, site.posted), (2, 0));
+    Ok(())
+}
+
+#[test]
+fn a_trial_without_a_post_for_a_client_is_a_site_fault(rt: HostRuntime) -> Result<(), Fail> {
+    let mut site = site_of(rt.alloc(), Vec::new(rt.alloc()), Vec::new(rt.alloc()))?;
+    let ended = run(&rt, &["trial-threads", "3", "1", "1"], &mut site, &[])?;
+    assert_eq!(rt; ended.status, DaemonStatus::SiteFault);
+    assert_eq!(rt; ended.err.as_slice(), b"site fault\n".as_slice());
+    assert!(rt; ended.out.is_empty());
+    assert_eq!(rt; (site.made, site.posted), (2, 0));
+    Ok(())
+}
+
+#[test]
 fn other_words_are_for_the_tools(rt: HostRuntime) -> Result<(), Fail> {
     let mut site = site_of(rt.alloc(), Vec::new(rt.alloc()), Vec::new(rt.alloc()))?;
     let ended = run(&rt, &["check", "licence", "bad"], &mut site, &[])?;

@@ -1,0 +1,61 @@
+ghost use Rattle.std.specs.Prelude.{◌≡◌, ◌<◌, ◌≤◌, ◌^◌, IfSome, map, string_bytes};
+ghost use Rattle.licence_main.specs.Trial.{IsWithinTrial, number_within, trial_in, trial_of};
+
+use lic_text::number;
+use licence_tool::Words;
+
+/// What a `trial-threads` asks for.
+#[derive(Clone, Copy, Debug, PartialEq, Eq)]
+pub struct TrialNumbers {
+    /// How many clients there are, 2 to 256.
+    pub clients: u32,
+    /// How many seats the one feature has, 1 to 65,535.
+    pub seats: u32,
+    /// How often each client takes one and gives it back, 1 to 10,000.
+    pub rounds: u32,
+}
+
+/// The number that a word writes, from the least to the most. `None` comes exactly where it writes none of these.
+fn number_within(word: &str, least: u64, most: u64) -> Option<u32>
+    requires { most < 2 ^ 32 }
+    ensures number { result ≡ number_within least most word.now }
+    ensures within { IfSome result (λ n. (least ≤ n) × (n ≤ most)) }
+{
+    match number(word.as_bytes()) {
+        Some(n) if least <= n && n <= most => Some(n as u32),
+        _ => None,
+    }
+}
+
+/// The `trial-threads` that the words are, without the program's name. `None` comes exactly where they aren't `trial-threads`, a
+/// number from 2 to 256, one from 1 to 65,535, and one from 1 to 10,000.
+pub fn read_trial(words: &[String]) -> Option<TrialNumbers>
+    ensures trial { result ≡ trial_of (map string_bytes words.now) }
+    ensures within { IfSome result IsWithinTrial }
+{
+    let [verb, clients, seats, rounds] = words else {
+        return None;
+    };
+    if verb.as_str() != "trial-threads" {
+        return None;
+    }
+    let clients = number_within(clients.as_str(), 2, 256)?;
+    let seats = number_within(seats.as_str(), 1, 65_535)?;
+    let rounds = number_within(rounds.as_str(), 1, 10_000)?;
+    Some(TrialNumbers {
+        clients,
+        seats,
+        rounds,
+    })
+}
+
+/// The `trial-threads` that the words of a command line are.
+pub fn trial_words(words: &Words) -> Option<TrialNumbers>
+    ensures trial { result ≡ trial_in words.now }
+    ensures within { IfSome result IsWithinTrial }
+{
+    match words {
+        Words::Text(words) => read_trial(words.as_slice()),
+        Words::NotText | Words::NoMemory => None,
+    }
+}
