@@ -34,7 +34,15 @@ void *realloc(void *block, size_t size) {
 }
 """
 SITE = "examples/site"
-FILES = [f"{SITE}/{name}" for name in ("licence", "options", "script", "more")]
+FIRST = "examples/first"
+# Each command, where its files and the text that it prints stand, and which files these are.
+COMMANDS = (
+    ("replay", SITE, ("licence", "options", "script", "more")),
+    ("check", SITE, ("licence", "options")),
+    ("report", FIRST, ("licence", "options", "script")),
+    ("audit", SITE, ("licence", "options", "log", "more")),
+    ("usage", SITE, ("licence", "options", "log", "more")),
+)
 MOST = 1_000_000
 
 
@@ -62,7 +70,8 @@ def allocations(words, wanted, refusing):
 tool = program()
 with tempfile.TemporaryDirectory() as folder:
     refusing = library(folder)
-    for command, files in (("replay", FILES), ("check", FILES[:2])):
-        with open(f"{SITE}/expected.{command}", "rb") as file:
+    for command, example, names in COMMANDS:
+        with open(f"{example}/expected.{command}", "rb") as file:
             wanted = file.read()
+        files = [f"{example}/{name}" for name in names]
         print(f"{command}: {allocations([tool, command, *files], wanted, refusing)} allocations")

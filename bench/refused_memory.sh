@@ -1,5 +1,5 @@
 #!/bin/sh
-# Makes each allocation of a replay and of a check of the example site fail in turn, with the built program: status 8, the
+# Makes each allocation of the offline commands fail in turn on the example sites, with the built program: status 8, the
 # line `no memory` and nothing on standard output, and past the last allocation the usual text. It prints how many there
 # were. It needs a C compiler, for a small library that refuses one call of malloc or realloc. Another program may be named.
 # Build the program first: (cd crates/licence_main && rt run -- check data/licence data/options)

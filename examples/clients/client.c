@@ -1,9 +1,11 @@
 /* Holds a licence until standard input ends: client SOCKET FEATURE VERSION
  *
  * It prints the daemon's reply to the CHECKOUT, waits in the queue where no licence is free, says once a minute that it still runs,
- * and gives the licence back. Status 0: it had the licence to the end; 3: there was none for it; 5: the daemon took it back, or went.
+ * and gives the licence back. Status 0: it had the licence to the end; 2: the words aren't as above; 3: there was none for it;
+ * 5: the daemon isn't there, took it back, or went away.
  */
 #include <poll.h>
+#include <signal.h>
 #include <stdio.h>
 #include <stdlib.h>
 #include <string.h>
@@ -11,7 +13,7 @@
 #include <sys/un.h>
 #include <unistd.h>
 
-enum { DENIED = 3, LOST = 5, BEAT_MILLISECONDS = 60000, QUEUE_MILLISECONDS = 1000 };
+enum { USAGE = 2, DENIED = 3, LOST = 5, BEAT_MILLISECONDS = 60000, QUEUE_MILLISECONDS = 1000 };
 
 static FILE *link_to(const char *path) {
     struct sockaddr_un at = {.sun_family = AF_UNIX};
@@ -40,7 +42,9 @@ static int is_over(int milliseconds) {
 }
 
 int main(int count, char **words) {
-    if (count != 4) return 2;
+    if (count != 4) return fputs("usage: client SOCKET FEATURE VERSION\n", stderr), USAGE;
+    /* A write to a daemon that went is a fault of the write, and doesn't end the program. */
+    signal(SIGPIPE, SIG_IGN);
     FILE *licences = link_to(words[1]);
     if (!licences) return perror(words[1]), LOST;
     const char *feature = words[2], *user = getenv("USER");

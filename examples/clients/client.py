@@ -2,8 +2,9 @@
 """Runs a command while it holds a licence: client.py SOCKET FEATURE VERSION COMMAND [WORD ..]
 
 It waits in the queue where no licence is free, says once a minute that it still runs, and gives the licence back at the end.
-Status 3: denied, and the line that standard error shows says by which line of the options file; 4: the daemon has no such
-licence; 5: the daemon took the licence back or went away, and the command was ended; else the command's own.
+Status 2: the words aren't as above; 3: denied, and the line that standard error shows says by which line of the options file;
+4: the daemon has no such licence; 5: the daemon isn't there, or it took the licence back or went away, and the command was
+ended; 127: the command could not be started; else the command's own.
 """
 
 import getpass
@@ -43,22 +44,38 @@ def checked_out(licences, feature, version, pause):
     return reply
 
 
+def is_kept(licences, feature):
+    """Whether the daemon still knows of the licence, which a BEAT asks."""
+    try:
+        return not licences.ask(f"BEAT {feature}").startswith("NOTHELD")
+    except OSError as fault:
+        print(f"client: {fault}", file=sys.stderr)
+        return False
+
+
 def main():
+    if len(sys.argv) < 5:
+        print("usage: client.py SOCKET FEATURE VERSION COMMAND [WORD ..]", file=sys.stderr)
+        return 2
     path, feature, version, *command = sys.argv[1:]
     licences = Licences(path)
     host = socket.gethostname()
-    licences.ask(f"HELLO {getpass.getuser()} {host} {os.environ.get('DISPLAY', ':0')} none")
+    licences.ask(f"HELLO {getpass.getuser()} {host} {os.environ.get('DISPLAY') or ':0'} none")
     reply = checked_out(licences, feature, version, lambda: time.sleep(1))
     if not reply.startswith(("GRANTED", "RETAKEN")):
         print(reply, file=sys.stderr)
         return 3 if reply.startswith("DENIED") else 4
-    work = subprocess.Popen(command)
+    try:
+        work = subprocess.Popen(command)
+    except OSError as fault:
+        print(f"client: {fault}", file=sys.stderr)
+        return 127
     while True:
         try:
             status = work.wait(BEAT_SECONDS)
             break
         except subprocess.TimeoutExpired:
-            if licences.ask(f"BEAT {feature}").startswith("NOTHELD"):
+            if not is_kept(licences, feature):
                 work.terminate()
                 work.wait()
                 return 5
