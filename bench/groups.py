@@ -1,4 +1,5 @@
 import os
+import resource
 import sys
 import tempfile
 
@@ -44,13 +45,23 @@ def queued_users(lines):
     return licence(1), options, script
 
 
-def seconds(files):
+def full_pools():
+    """64 pools under an options file of 4,096 lines and 65,536 members, and one request."""
+    pools = "".join(f'INCREMENT mill{i} maker 1.0 permanent 9 SIGN="91BB 0431"\n' for i in range(63))
+    members = [f"m{i * 7919 % 65536:05}" for i in range(65536)]
+    groups = "".join(f"GROUP g{i % 256} {' '.join(members[i * 64:i * 64 + 64])}\n" for i in range(1024))
+    rules = "".join(f"MAX 9 mill{i % 63} GROUP g{i % 256}\n" for i in range(3072))
+    return licence(1) + pools, groups + rules, line(1790030000, 0, 0, "CHECKOUT")
+
+
+def seconds(files, more=0):
     licences, options, script = files
     write("licence", licences)
     write("options", options)
     write("script", script)
     lines = script.count("\n")
-    return least_seconds([tool, "replay", "licence", "options", "script"], lambda out: out.count(b"\n") == lines)
+    words = [tool, "replay", "licence", "options", "script"] + ["options"] * more
+    return least_seconds(words, lambda out: out.count(b"\n") == lines)
 
 
 tool = program()
@@ -58,7 +69,10 @@ with tempfile.TemporaryDirectory() as folder:
     os.chdir(folder)
     lingering = seconds(lingering_users()) / 8192
     few, many = seconds(queued_users(20)), seconds(queued_users(220))
+    full, four = seconds(full_pools()), seconds(full_pools(), 3)
 queued = (many - few) / 200
 print(f"a line with 4,096 users: {lingering * 1000:.3f} ms")
 print(f"a line with 20 queued: {queued * 1000:.3f} ms")
-sys.exit(max(lingering, queued) > 0.005)
+print(f"64 pools at the limits: {full * 1000:.0f} ms, with four options files {four * 1000:.0f} ms")
+print(f"at most {resource.getrusage(resource.RUSAGE_CHILDREN).ru_maxrss // 1024} MB")
+sys.exit(max(lingering, queued) > 0.005 or full > 0.2)

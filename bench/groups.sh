@@ -1,7 +1,9 @@
 #!/bin/sh
-# Times `replay` on options files with long groups. Two sites: 4,096 users who take a seat and give it back, once each, under
-# a MAX line of a group of 1,000, with a linger time; and 4,000 EXCLUDE lines of a group of 65,536, with 20 users in the
-# queue. It prints the time a line, and ends with 0 only where no line takes over 5 ms. Another program may be named.
+# Times `replay` on options files with long groups. Three sites: 4,096 users who take a seat and give it back, once each, under
+# a MAX line of a group of 1,000, with a linger time; 4,000 EXCLUDE lines of a group of 65,536, with 20 users in the queue; and
+# pools under an options file at its limits, and under four of them. It prints the time a line, that of the third whole, and
+# the memory that the largest run had, and ends with 0 only where no line takes over 5 ms and the third site with one options
+# file 0.2 s. Another program may be named.
 # Build the program first: (cd crates/licence_main && rt run -- check data/licence data/options)
 cd "$(dirname "$0")/.." || exit 1
 exec python3 -B bench/groups.py "$@"

@@ -14,16 +14,17 @@ use crate::parts::{Parts, sort};
 use crate::reading::read_entries;
 use crate::told::first_untold;
 use crate::writing::{Left, write_left};
+use group_roster::Roster;
 use lic_text::numbers_rise;
 use lic_types::{Group, NoMemory, Note, RuleLine};
 use std::alloc::Global;
 use std::marker::Model;
 
 /// What an options file says: its groups, its rules, and a note for each line that isn't acted on. Beside each note
-/// stands which of REPORTLOG, DEBUGLOG and NOLOG its line is.
+/// stands which of REPORTLOG, DEBUGLOG and NOLOG its line is. Who is in the groups is sorted once, when the file is read.
 #[derive(Drop)]
 pub struct Options {
-    groups: Vec<Group>,
+    roster: Roster,
     lines: Vec<RuleLine>,
     notes: Vec<Note>,
     logs: Vec<LogKeyword>,
@@ -34,9 +35,9 @@ impl Model for Options {
 
     ghost Value = { OptionsFile };
 
-    ghost view = { λ o. record { groups = o.groups.items; lines = o.lines.items; notes = o.notes.items; logs = o.logs.items } };
+    ghost view = { λ o. record { groups = o.roster; lines = o.lines.items; notes = o.notes.items; logs = o.logs.items } };
 
-    ghost invariant = { λ o. IsSaid (record { groups = o.groups.items; lines = o.lines.items; notes = o.notes.items; logs = o.logs.items }) };
+    ghost invariant = { λ o. IsSaid (record { groups = o.roster; lines = o.lines.items; notes = o.notes.items; logs = o.logs.items }) };
 }
 
 impl Options {
@@ -45,7 +46,14 @@ impl Options {
         ensures groups { result.now ≡ self.now.groups }
         ensures rising { IsStrictlyIncreasing (map (λ g. g.line) self.now.groups) }
     {
-        self.groups.as_slice()
+        self.roster.groups()
+    }
+
+    /// Who is in the groups, for the rules of its pools, which share it.
+    pub fn roster(&self) -> &Roster
+        ensures { result.now ≡ self.now.groups }
+    {
+        &self.roster
     }
 
     /// The rules, in the order of the file. Each has a line of its own; the numbers of MAX and RESERVE are up to 65,535,
@@ -114,7 +122,7 @@ pub fn read_options(alloc: Global, file: &[u8]) -> Result<Options, OptionsFault>
 {
     let parts = read_parts(alloc, file)?;
     Ok(Options {
-        groups: parts.groups,
+        roster: Roster::of(alloc, parts.groups)?,
         lines: parts.lines,
         notes: parts.notes,
         logs: parts.logs,
@@ -133,7 +141,7 @@ pub fn write_options(alloc: Global, options: &Options) -> Result<Vec<u8>, NoMemo
     ensures reads_back { IfOk result (λ text. options_of text.items ≡ Ok options.now) }
 {
     let left = Left {
-        groups: options.groups.as_slice(),
+        groups: options.roster.groups(),
         lines: options.lines.as_slice(),
         notes: options.notes.as_slice(),
         logs: options.logs.as_slice(),

@@ -6,9 +6,9 @@
 mod anew;
 mod answers;
 mod lists;
+mod matching;
 mod members;
 mod plain;
-mod roster;
 mod rows;
 mod rules;
 mod selection;

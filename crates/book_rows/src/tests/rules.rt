@@ -170,28 +170,29 @@ fn the_first_line_of_the_feature_tells_the_time(rt: HostRuntime) -> Result<(), F
     Ok(())
 }
 
-#[test]
-fn named_groups_alone_are_kept(rt: HostRuntime) -> Result<(), Fail> {
-    let made = rules(
-        &rt,
-        b"GROUP g ann\nHOST_GROUP g h1\nGROUP h bob\nGROUP g cy dan\nGROUP i ann\n\
-        MAX 1 edit GROUP g\nEXCLUDE view GROUP h\nINCLUDEALL GROUP i\n",
-        2,
-    )?;
-    let groups = made.groups();
-    assert_eq!(&rt; groups.len(), 3);
-    assert_eq!(&rt; groups[0].line(), 1);
-    assert_eq!(&rt; groups[1].line(), 4);
-    assert_eq!(&rt; groups[1].members().len(), 2);
-    assert_eq!(&rt; groups[2].line(), 5);
-    Ok(())
-}
-
 /// The number of the first exclude line that speaks of the user at the host.
 fn excluded(made: &DeskRules, user: &[u8], host: &[u8]) -> Result<Option<u32>, Fail> {
     let mut asking = client(user)?;
     asking.host = name(host)?;
     Ok(made.excluded(&asking))
+}
+
+#[test]
+fn pools_share_the_groups_of_their_file(rt: HostRuntime) -> Result<(), Fail> {
+    let file = b"GROUP g ann\nHOST_GROUP g h1\nGROUP h bob\nMAX 1 edit GROUP g\nEXCLUDE view GROUP h\n";
+    let options = read_options(rt.alloc(), file)?;
+    let mut of_view = pool(2)?;
+    of_view.name = name(b"view")?;
+    let edit = DeskRules::of(rt.alloc(), &options, &pool(2)?)?;
+    let view = DeskRules::of(rt.alloc(), &options, &of_view)?;
+    drop(options);
+    drop(edit);
+    let groups = view.groups();
+    assert_eq!(&rt; groups.len(), 3);
+    assert_eq!(&rt; groups[2].line(), 3);
+    assert_eq!(rt; excluded(&view, b"bob", b"h1")?, Some(5));
+    assert_eq!(rt; excluded(&view, b"ann", b"h1")?, None);
+    Ok(())
 }
 
 #[test]

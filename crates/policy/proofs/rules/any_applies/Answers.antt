@@ -1,7 +1,7 @@
 use Rattle.std.proofs.Common.{ap, ◌∙◌, is_some}
 use Rattle.options_machine.specs.Decide.{number_of_line}
 use Rattle.options_machine.specs.Rules.{applies}
-use Rattle.policy.proofs.Rosters.{any_found}
+use Rattle.policy.proofs.Finds.{any_found}
 use Rattle.policy.proofs.rules.any_applies.Goals as goal
 
 pub returns : goal.returns

@@ -1,8 +1,0 @@
-use Rattle.policy.proofs.Rosters.{lists_as, sorted_as}
-use Rattle.policy.proofs.roster.Roster.lists.Goals as goal
-
-pub has-requires : goal.has-requires
-has-requires c = sorted_as _ _ _ _ c.as_slice.ensures.value c.as_slice-2.ensures.value c.self.invariant
-
-pub returns : goal.returns
-returns c = lists_as _ _ _ _ _ _ _ _ _ c.as_slice.ensures.value c.as_slice-2.ensures.value c.self.view_is c.bytes-2.ensures.bytes c.bytes.ensures.bytes c.self.invariant c.has.ensures
