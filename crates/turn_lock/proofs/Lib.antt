@@ -4,6 +4,7 @@ pub mod Stays
 pub mod Owned
 pub mod Keeps
 pub mod Ticket
+pub mod Claim
 pub mod Watch
 pub mod Take
 pub mod Count

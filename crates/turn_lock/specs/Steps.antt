@@ -80,6 +80,11 @@ module _ {S L Q A : Type 0} where
   drew st m n m' = (p : Pass L Q A) → m ≡ (seated p Idle, [])
       → (t : ℕ) × (n ≡ t % 2 ^ 64) × (m' ≡ (seated p (Waiting t), []))
 
+  -- the ticket was drawn where it was the next one, and else nothing has changed
+  abbrev pub claimed : Step S → Me S (View L Q A) → ℕ → Me S (View L Q A) → Type 0
+  claimed st m n m' = (p : Pass L Q A) → m ≡ (seated p Idle, [])
+      → (n ≡ st.first → (t : ℕ) × (n ≡ t % 2 ^ 64) × (m' ≡ (seated p (Waiting t), []))) × (n ≢ st.first → m' ≡ m)
+
   -- the turn has come where the serving word is the ticket's
   abbrev pub watched : Step S → Me S (View L Q A) → ℕ → Me S (View L Q A) → Type 0
   watched st m n m' = (p : Pass L Q A) (t : ℕ) → m ≡ (seated p (Waiting t), [])

@@ -59,6 +59,15 @@ impl<S, L, Q, A> Play<S, View<L, Q, A>> for Draw {
     ghost then = { drew };
 }
 
+/// Raises the ticket word where it is the number handed in: then the seat has that ticket.
+pub(crate) struct Claim;
+
+impl<S, L, Q, A> Play<S, View<L, Q, A>> for Claim {
+    ghost use Rattle.turn_lock.specs.Steps.{claimed};
+
+    ghost then = { claimed };
+}
+
 /// Loads the serving word: the seat has the turn where it finds its ticket.
 pub(crate) struct Watch;
 

@@ -1,15 +1,15 @@
 //! The lock and its passes.
 ghost use Rattle.std.specs.Prelude.{◌≡◌, ℕ, ◌%◌, ◌^◌, ◌<◌, ◌≤◌, List, [], ◌∷◌, ◌++◌, length, Some, IfOk, IfErr, EachIndex, vec_len, vec_capacity, All, slice_get};
 ghost use Rattle.turn_lock.specs.declared.kept.Entry.{Entry};
-ghost use Rattle.turn_lock.specs.declared.view.Stage.TheVariants.{Idle, Turn, Out, Counted};
+ghost use Rattle.turn_lock.specs.declared.view.Stage.TheVariants.{Idle, Waiting, Turn, Out, Counted};
 ghost use Rattle.turn_lock.specs.Entries.{entry, own};
 ghost use Rattle.turn_lock.specs.Passes.{Pass, Closes, unused};
 ghost use Rattle.turn_lock.specs.Steps.{knows, maker, seated, shown, longer, StandsFor, StepsBy, IsAtRest, IsGathered};
 
 use crate::kept::{Kept, Stepped};
 use crate::table::{
-    Count, Deal, Draw, Gather, Give, InTurn, LockSeat, LockTable, Next, Opening, SERVING, Saying,
-    TICKET, Take, VALUE, Watch,
+    Claim, Count, Deal, Draw, Gather, Give, InTurn, LockSeat, LockTable, Next, Opening, SERVING,
+    Saying, TICKET, Take, VALUE, Watch,
 };
 use crate::view::View;
 use atomic_table::{Badge, Refused, Seat, Table};
@@ -36,6 +36,9 @@ const DOUBLINGS: u32 = 5;
 
 // After so many rounds, about a third of a second, a caller draws its ticket all the same.
 const PATIENCE: u32 = 400;
+
+// The round of the first sleep. Who has a ticket sleeps no longer than this, since all behind it wait for it.
+const SHORTEST: u32 = SPINS + YIELDS;
 
 /// What a call through the lock gives.
 #[derive(Debug, Drop)]
@@ -240,30 +243,43 @@ impl<V: Kept> Turns<V> {
         ensures turn { (p : Pass V.Law V.Request V.Answer) → IsAtRest p seat.old.me
             → (t : ℕ) × (seat.new.me ≡ (seated p (Turn t), [])) }
     {
-        self.look_before(rt);
-        let ticket = self.table.shared.fetch_add::<Draw>(seat, TICKET, 1);
+        let ticket = self.draw(rt, seat);
         let mut round = 0u32;
         for _ in rt.forever() {
             let serving = self.table.shared.load::<Watch>(seat, SERVING);
             if serving == ticket {
                 return;
             }
-            self.pause(rt, round, serving);
+            self.pause(rt, round.min(SHORTEST), serving);
             round = round.saturating_add(1);
         }
         unreachable!()
     }
 
-    // Waits until nobody has a ticket that isn't served, or for so many rounds. Tickets are served in order, so one drawer
-    // whom the system has put aside stops all behind it: who looks first mostly draws where its turn has come at once.
-    fn look_before<R: Wait>(&self, rt: &R) {
+    // Gives the ticket that it drew. Tickets are served in order, so one drawer whom the system has put aside stops all
+    // behind it: so nobody draws while another is in, but after so many rounds.
+    fn draw<R: Wait>(&self, rt: &R, seat: &mut LockSeat<V>) -> u64
+        requires lock { seat.old.table_id ≡ self.now.id.table }
+        requires idle { (p : Pass V.Law V.Request V.Answer) × IsAtRest p seat.old.me }
+        ensures lock { seat.new.table_id ≡ seat.old.table_id }
+        ensures drawn { (p : Pass V.Law V.Request V.Answer) → IsAtRest p seat.old.me
+            → (t : ℕ) × (result ≡ t % 2 ^ 64) × (seat.new.me ≡ (seated p (Waiting t), [])) }
+    {
         for round in 0..PATIENCE {
             let serving = self.table.shared.peek(SERVING);
             if self.table.shared.peek(TICKET) == serving {
-                return;
+                let next = serving.wrapping_add(1);
+                let found = self
+                    .table
+                    .shared
+                    .compare_exchange::<Claim>(seat, TICKET, serving, next);
+                if found == serving {
+                    return serving;
+                }
             }
             self.pause(rt, round, serving);
         }
+        self.table.shared.fetch_add::<Draw>(seat, TICKET, 1)
     }
 
     // One round of waiting for the serving word to be another than was seen. Nobody wakes a sleeper.

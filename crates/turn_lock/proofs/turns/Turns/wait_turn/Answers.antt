@@ -1,10 +1,6 @@
 use Rattle.std.proofs.Common.{arith, ap, ◌∙◌, sym}
-use Rattle.turn_lock.proofs.Ticket.{draws}
 use Rattle.turn_lock.proofs.Watch.{watches}
 use Rattle.turn_lock.proofs.turns.Turns.wait_turn.Goals as goal
-
-pub fetch_add-ticket-requires : goal.fetch_add-ticket-requires
-fetch_add-ticket-requires g c = (c.requires.lock ∙ sym (ap (λ z. z.id.table) c.self.view_is), (let i = c.self.invariant in omega arith), draws _ _ _ _ _ _ _ _ _ c.requires.idle.0 c.requires.idle.1)
 
 pub load-serving-requires : goal.load-serving-requires
 load-serving-requires g c = let i = c.loop.invariant in let j = i.1 c.requires.idle.0 c.requires.idle.1 in (
