@@ -4,7 +4,7 @@ use Rattle.std.proofs.lemmas.List.{take-append-le, take_min, map-append, length-
 use Rattle.std.proofs.Math.Seq.{take-length}
 use Rattle.std.proofs.lemmas.Option.{slice_get_within}
 use Rattle.options_machine.specs.declared.reply.Entry.{Entry}
-use Rattle.turn_lock.proofs.Members.{got_snoc}
+use Rattle.pass_roles.proofs.Members.{got_snoc}
 use Rattle.stat_board.specs.Fronts.{Front, longer}
 use Rattle.stat_board.specs.Rule.{Posted}
 use Rattle.desk_book.specs.Standing.{AreNoted, Call, Shows, at, entries_of, entry_of}

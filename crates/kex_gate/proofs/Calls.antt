@@ -7,13 +7,14 @@ use Rattle.kex_core.specs.Costs.{depth}
 use Rattle.kex_core.specs.Shapes.{Sheet, plan}
 use Rattle.kex_net.specs.Gates.{IsGated}
 use Rattle.kex_words.specs.Passes.{TableNet, Pass, IsOut}
-use Rattle.kex_gate.specs.declared.view.Role.TheVariants.{Party}
+use Rattle.pass_roles.specs.declared.role.Role.TheVariants.{Party}
 use Rattle.kex_gate.specs.declared.view.Spot.{Spot}
 use Rattle.kex_gate.specs.declared.view.Spot.TheVariants.{Free, Testing, Taking, Fast, Clearing, Giving, Slow}
 use Rattle.kex_gate.specs.declared.view.Visit.{Visit}
 use Rattle.kex_gate.specs.declared.view.View.{View}
 use Rattle.kex_gate.specs.Passes.{Gate, Guest, Way, IsSetUp, sessions, resting, slow_seats, own_pass, visited, room_word, bit_word}
-use Rattle.kex_gate.specs.Rule.{IsGate, number_of}
+use Rattle.pass_roles.specs.Roles.{number_of}
+use Rattle.kex_gate.specs.Rule.{IsGate}
 use Rattle.kex_gate.specs.Steps.{Self, spot_at, last_of, IsSession, IsIdle, IsLane, StandsAt, GoesOn, guest_of, way_of, pass_at, is_fast, came, tested, went_out, went_home, cleared, gave, gave_slow, entered, Meets}
 use Rattle.kex_gate.proofs.Words.{comes, test_bit, clear_bit, gives, gives_slow}
 use Rattle.kex_gate.proofs.Moving.{leaves_slot, comes_home, last_snoc}

@@ -5,16 +5,17 @@ use lib.ListN.{get_elem?}
 use Rattle.atomic_table.specs.Table.{Final, Seen}
 use Rattle.atomic_table.proofs.Lists.{drop_at}
 use Rattle.kex_words.specs.Passes.{TableNet, Pass, times}
-use Rattle.kex_words.specs.Rule.{total}
-use Rattle.kex_words.proofs.Members.{total_two, total_alone, total_none, at_inside, times_append, times_other}
-use Rattle.kex_gate.specs.declared.view.Role.{Role}
-use Rattle.kex_gate.specs.declared.view.Role.TheVariants.{Maker, Party, Spent}
+use Rattle.pass_roles.specs.Roles.{total, number_of, weigh}
+use Rattle.pass_roles.proofs.Members.{total_two, total_alone, total_none, at_inside}
+use Rattle.kex_words.proofs.Times.{times_append, times_other}
+use Rattle.pass_roles.specs.declared.role.Role.{Role}
+use Rattle.pass_roles.specs.declared.role.Role.TheVariants.{Maker, Party, Spent}
 use Rattle.kex_gate.specs.declared.view.Spot.{Spot}
 use Rattle.kex_gate.specs.declared.view.Spot.TheVariants.{Free}
 use Rattle.kex_gate.specs.declared.view.Visit.{Visit}
 use Rattle.kex_gate.specs.declared.view.View.{View}
 use Rattle.kex_gate.specs.Passes.{Guest, sessions, resting, seats_of, slow_seats, slow_of, taken_by, session_numbers}
-use Rattle.kex_gate.specs.Rule.{GateState, Homes, IsGate, IsHome, IsAway, Fits, number_of, weigh, is_out, kept_at, weight, is_out_in, fast_in, kept_in, home_worth, fast_worth}
+use Rattle.kex_gate.specs.Rule.{GateState, Homes, IsGate, IsHome, IsAway, Fits, is_out, kept_at, weight, is_out_in, fast_in, kept_in, home_worth, fast_worth}
 use Rattle.kex_gate.specs.Steps.{Self, IsGathered, slot_worth, slot_number}
 
 -- 1 at s, and else 0

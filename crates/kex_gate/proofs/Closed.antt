@@ -7,8 +7,8 @@ use Rattle.atomic_table.specs.Seated.{TableId}
 use Rattle.atomic_table.specs.Table.{Final, Seen}
 use Rattle.kex_words.specs.declared.card.Card.{Card}
 use Rattle.kex_words.specs.Passes.{TableNet, Pass, times, counted_card}
-use Rattle.kex_words.specs.Rule.{total}
-use Rattle.kex_words.proofs.Members.{times_append}
+use Rattle.pass_roles.specs.Roles.{total}
+use Rattle.kex_words.proofs.Times.{times_append}
 use Rattle.kex_words.proofs.Uses.{sums}
 use Rattle.kex_gate.specs.declared.view.Visit.{Visit}
 use Rattle.kex_gate.specs.Passes.{Gate, Guest, IsSetUp, sessions, session_numbers, slow_of, taken_by, used_by, got, seats_of}

@@ -3,8 +3,8 @@ use Rattle.std.proofs.Common.{◌≡◌, ℕ, ◌<◌, List, [], ◌∷◌, ◌+
 use Rattle.atomic_table.specs.Seated.{TableId}
 use Rattle.atomic_table.specs.Table.{Joins}
 use Rattle.kex_words.specs.Passes.{TableNet, Pass, times}
-use Rattle.kex_words.specs.Rule.{total}
-use Rattle.kex_words.proofs.Members.{times_append}
+use Rattle.pass_roles.specs.Roles.{total}
+use Rattle.kex_words.proofs.Times.{times_append}
 use Rattle.kex_gate.specs.Passes.{Guest, session_numbers, slow_of}
 use Rattle.kex_gate.specs.Rule.{IsGate, fast_worth}
 use Rattle.kex_gate.specs.Steps.{Self, both, spent, guest_of, IsIdle, IsGathered}

@@ -5,15 +5,16 @@ use lib.ListN.{get_elem?}
 use Rattle.atomic_table.specs.Table.{Joins}
 use Rattle.atomic_table.proofs.Lists.{at_set, set_else}
 use Rattle.kex_words.specs.Passes.{times}
-use Rattle.kex_words.specs.Rule.{total}
-use Rattle.kex_words.proofs.Members.{total_set, each_set, times_append}
-use Rattle.kex_gate.specs.declared.view.Role.{Role}
-use Rattle.kex_gate.specs.declared.view.Role.TheVariants.{Maker, Party}
+use Rattle.pass_roles.specs.Roles.{total, number_of, weigh}
+use Rattle.pass_roles.proofs.Members.{total_set, each_set}
+use Rattle.kex_words.proofs.Times.{times_append}
+use Rattle.pass_roles.specs.declared.role.Role.{Role}
+use Rattle.pass_roles.specs.declared.role.Role.TheVariants.{Maker, Party}
 use Rattle.kex_gate.specs.declared.view.Spot.{Spot}
 use Rattle.kex_gate.specs.declared.view.Spot.TheVariants.{Free}
 use Rattle.kex_gate.specs.declared.view.View.{View}
 use Rattle.kex_gate.specs.Passes.{sessions}
-use Rattle.kex_gate.specs.Rule.{IsGate, IsHome, IsAway, Fits, number_of, weigh, numbered, busy, within, reaches, owns, is_out, kept_at, busy_in, within_in, reaches_in, owns_in, is_out_in, weight, numbered_in, fast_in, kept_in, fast_worth}
+use Rattle.kex_gate.specs.Rule.{IsGate, IsHome, IsAway, Fits, numbered, busy, within, reaches, owns, is_out, kept_at, busy_in, within_in, reaches_in, owns_in, is_out_in, weight, numbered_in, fast_in, kept_in, fast_worth}
 use Rattle.kex_gate.specs.Steps.{both, spent}
 use Rattle.kex_gate.proofs.Counts.{total_append}
 use Rattle.kex_gate.proofs.Keeps.{known}

@@ -4,15 +4,15 @@ use mathlib.Core.Option.{some, some-injective}
 use lib.ListN.{get_elem?}
 use Rattle.atomic_table.proofs.Lists.{set_else}
 use Rattle.kex_words.specs.Passes.{TableNet}
-use Rattle.kex_words.specs.Rule.{total}
-use Rattle.kex_words.proofs.Members.{total_set, each_set}
-use Rattle.kex_gate.specs.declared.view.Role.{Role}
-use Rattle.kex_gate.specs.declared.view.Role.TheVariants.{Maker, Party, Spent}
+use Rattle.pass_roles.specs.Roles.{total, number_of, weigh}
+use Rattle.pass_roles.proofs.Members.{total_set, each_set}
+use Rattle.pass_roles.specs.declared.role.Role.{Role}
+use Rattle.pass_roles.specs.declared.role.Role.TheVariants.{Maker, Party, Spent}
 use Rattle.kex_gate.specs.declared.view.Spot.{Spot}
 use Rattle.kex_gate.specs.declared.view.Visit.{Visit}
 use Rattle.kex_gate.specs.declared.view.View.{View}
 use Rattle.kex_gate.specs.Passes.{sessions, room_word, bit_word}
-use Rattle.kex_gate.specs.Rule.{GateState, Homes, IsGate, IsHome, IsAway, MayStand, Fits, Standing, busy, is_out, kept_at, number_of, weigh, busy_in, within_in, reaches_in, owns_in, is_out_in, weight, numbered_in, fast_in, kept_in, home_worth, fast_worth}
+use Rattle.kex_gate.specs.Rule.{GateState, Homes, IsGate, IsHome, IsAway, MayStand, Fits, Standing, busy, is_out, kept_at, busy_in, within_in, reaches_in, owns_in, is_out_in, weight, numbered_in, fast_in, kept_in, home_worth, fast_worth}
 use Rattle.kex_gate.proofs.Counts.{total_le, busy_one, within_busy}
 
 -- a session weighs at least what it is worth as one that is not Free

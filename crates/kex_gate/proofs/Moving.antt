@@ -9,15 +9,15 @@ use Rattle.atomic_table.specs.Table.{step, takes, gives, Allows}
 use Rattle.atomic_table.proofs.Lists.{set_here, set_else}
 use Rattle.kex_core.proofs.Sums.{chosen, same_or, eq_from, ne_from}
 use Rattle.kex_words.specs.Passes.{TableNet, Pass}
-use Rattle.kex_words.specs.Rule.{total}
-use Rattle.kex_words.proofs.Members.{total_has, total_set, at_inside}
-use Rattle.kex_gate.specs.declared.view.Role.TheVariants.{Party}
+use Rattle.pass_roles.specs.Roles.{total, number_of}
+use Rattle.pass_roles.proofs.Members.{total_has, total_set, at_inside}
+use Rattle.pass_roles.specs.declared.role.Role.TheVariants.{Party}
 use Rattle.kex_gate.specs.declared.view.Spot.{Spot}
 use Rattle.kex_gate.specs.declared.view.Spot.TheVariants.{Taking, Fast, Clearing, Giving}
 use Rattle.kex_gate.specs.declared.view.Visit.{Visit}
 use Rattle.kex_gate.specs.declared.view.View.{View}
 use Rattle.kex_gate.specs.Passes.{sessions, resting, room_word, bit_word}
-use Rattle.kex_gate.specs.Rule.{GateState, IsGate, IsHome, IsAway, MayStand, busy, within, reaches, owns, is_out, kept_at, up_to, just, number_of, busy_in, within_in, reaches_in, owns_in, is_out_in, fast_in, kept_in, home_worth, fast_worth}
+use Rattle.kex_gate.specs.Rule.{GateState, IsGate, IsHome, IsAway, MayStand, busy, within, reaches, owns, is_out, kept_at, up_to, just, busy_in, within_in, reaches_in, owns_in, is_out_in, fast_in, kept_in, home_worth, fast_worth}
 use Rattle.kex_gate.specs.Steps.{Self, spot_home, last_of, went_out, went_home, index_of}
 use Rattle.kex_gate.proofs.Counts as counts
 use Rattle.kex_gate.proofs.Counts.{total_le, total_le2, total_append, owns_reaches, out_owns}

@@ -5,13 +5,13 @@ use mathlib.Core.Option.{none, some}
 use native.Mathlib.Decide.{ℕ_discrete}
 use lib.ListN.{get_elem?}
 use Rattle.kex_words.specs.Passes.{TableNet}
-use Rattle.kex_words.specs.Rule.{total}
-use Rattle.kex_words.proofs.Members.{total_two, total_has}
-use Rattle.kex_gate.specs.declared.view.Role.{Role}
+use Rattle.pass_roles.specs.Roles.{total, number_of}
+use Rattle.pass_roles.proofs.Members.{total_two, total_has}
+use Rattle.pass_roles.specs.declared.role.Role.{Role}
 use Rattle.kex_gate.specs.declared.view.Spot.{Spot}
 use Rattle.kex_gate.specs.declared.view.Spot.TheVariants.{Free, Testing, Taking, Fast, Clearing, Giving, Slow}
 use Rattle.kex_gate.specs.declared.view.View.{View}
-use Rattle.kex_gate.specs.Rule.{GateState, IsGate, IsHome, IsAway, MayStand, Fits, Standing, is_out, is_out_in, owns_in, number_of}
+use Rattle.kex_gate.specs.Rule.{GateState, IsGate, IsHome, IsAway, MayStand, Fits, Standing, is_out, is_out_in, owns_in}
 use Rattle.kex_gate.specs.Steps.{Self}
 use Rattle.kex_gate.specs.Laws.{stepped_at, got_home, IsSeated}
 use Rattle.kex_gate.proofs.Counts.{just_here}

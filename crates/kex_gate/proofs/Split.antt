@@ -5,13 +5,14 @@ use Rattle.atomic_table.specs.Table.{Splits}
 use Rattle.atomic_table.proofs.Lists.{at_longer}
 use Rattle.kex_core.proofs.Sums.{same_or}
 use Rattle.kex_words.specs.Passes.{TableNet, times}
-use Rattle.kex_words.specs.Rule.{total}
-use Rattle.kex_words.proofs.Members.{total_set, total_snoc, each_set, each_snoc, set_at, times_head, times_other}
-use Rattle.kex_gate.specs.declared.view.Role.{Role}
-use Rattle.kex_gate.specs.declared.view.Role.TheVariants.{Maker, Party, Spent}
+use Rattle.pass_roles.specs.Roles.{total, made_of, weigh}
+use Rattle.pass_roles.proofs.Members.{total_set, total_snoc, each_set, each_snoc, set_at}
+use Rattle.kex_words.proofs.Times.{times_head, times_other}
+use Rattle.pass_roles.specs.declared.role.Role.{Role}
+use Rattle.pass_roles.specs.declared.role.Role.TheVariants.{Maker, Party, Spent}
 use Rattle.kex_gate.specs.declared.view.View.{View}
 use Rattle.kex_gate.specs.Passes.{sessions}
-use Rattle.kex_gate.specs.Rule.{IsGate, IsHome, IsAway, Fits, Making, made_of, weigh, numbered, busy_in, within_in, reaches_in, owns_in, is_out_in, weight, numbered_in, fast_in, kept_in}
+use Rattle.kex_gate.specs.Rule.{IsGate, IsHome, IsAway, Fits, Making, numbered, busy_in, within_in, reaches_in, owns_in, is_out_in, weight, numbered_in, fast_in, kept_in}
 use Rattle.kex_gate.specs.Steps.{dealt, newcomer}
 
 -- the other views, once one more pass was dealt

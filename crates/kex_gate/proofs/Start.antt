@@ -7,8 +7,8 @@ use Rattle.atomic_table.specs.Seated.{TableId}
 use Rattle.atomic_table.specs.Table.{opening, Splits}
 use Rattle.atomic_table.proofs.Lists.{at_map}
 use Rattle.kex_words.specs.Passes.{TableNet, Pass}
-use Rattle.kex_words.specs.Rule.{total}
-use Rattle.kex_words.proofs.Members.{each_snoc}
+use Rattle.pass_roles.specs.Roles.{total}
+use Rattle.pass_roles.proofs.Members.{each_snoc}
 use Rattle.kex_gate.specs.declared.view.View.{View}
 use Rattle.kex_gate.specs.Passes.{Gate, Guest, sessions, resting, fresh, room_word, bit_word, IsSetUp}
 use Rattle.kex_gate.specs.Rule.{IsGate, Fits, home_worth}

@@ -4,15 +4,15 @@ use mathlib.Core.Option.{none, some}
 use lib.ListN.{get_elem?}
 use Rattle.atomic_table.specs.Table.{step, keeps, Allows}
 use Rattle.kex_core.proofs.Sums.{chosen, same_or, eq_from, ne_from}
-use Rattle.kex_words.specs.Rule.{total}
-use Rattle.kex_words.proofs.Members.{total_has}
-use Rattle.kex_gate.specs.declared.view.Role.TheVariants.{Party}
+use Rattle.pass_roles.specs.Roles.{total, number_of}
+use Rattle.pass_roles.proofs.Members.{total_has}
+use Rattle.pass_roles.specs.declared.role.Role.TheVariants.{Party}
 use Rattle.kex_gate.specs.declared.view.Spot.{Spot}
 use Rattle.kex_gate.specs.declared.view.Spot.TheVariants.{Free, Testing, Taking, Clearing, Giving, Slow}
 use Rattle.kex_gate.specs.declared.view.Visit.{Visit}
 use Rattle.kex_gate.specs.declared.view.View.{View}
 use Rattle.kex_gate.specs.Passes.{room_word, bit_word}
-use Rattle.kex_gate.specs.Rule.{GateState, IsGate, MayStand, busy, within, reaches, owns, is_out, kept_at, up_to, just, number_of, busy_in, within_in, reaches_in, owns_in, fast_worth}
+use Rattle.kex_gate.specs.Rule.{GateState, IsGate, MayStand, busy, within, reaches, owns, is_out, kept_at, up_to, just, busy_in, within_in, reaches_in, owns_in, fast_worth}
 use Rattle.kex_gate.specs.Steps.{Self, moved, entered, spot_at, spot_tested, came, tested, cleared, gave, gave_slow}
 use Rattle.kex_gate.proofs.Counts.{total_le, total_le3, total_append, tests, reaches_within, further_on}
 use Rattle.kex_gate.proofs.Keeps.{few_busy, few_within, low_at, total_is, changes_plain}

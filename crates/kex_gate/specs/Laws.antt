@@ -4,13 +4,13 @@ use mathlib.Core.Option.{none, some}
 use mathlib.Core.Option as maybe
 use lib.ListN.{get_elem?}
 use Rattle.kex_words.specs.Passes.{Pass}
-use Rattle.kex_gate.specs.declared.view.Role.TheVariants.{Party}
+use Rattle.pass_roles.specs.declared.role.Role.TheVariants.{Party}
 use Rattle.kex_gate.specs.declared.view.Spot.{Spot}
 use Rattle.kex_gate.specs.declared.view.Spot.TheVariants.{Free, Testing, Taking, Fast, Clearing, Giving, Slow}
 use Rattle.kex_gate.specs.declared.view.View.{View}
 use Rattle.kex_gate.specs.Passes.{sessions, resting, room_word, bit_word}
-use Rattle.kex_words.specs.Rule.{total}
-use Rattle.kex_gate.specs.Rule.{GateState, Homes, number_of, busy_in}
+use Rattle.pass_roles.specs.Roles.{total, number_of}
+use Rattle.kex_gate.specs.Rule.{GateState, Homes, busy_in}
 use Rattle.kex_gate.specs.Steps.{moved, entered, spot_tested, spot_home}
 
 -- what the pass of a slot has taken

@@ -6,7 +6,7 @@ use Rattle.kex_core.specs.Shapes.{Sheet}
 use Rattle.kex_net.specs.Gates.{IsGated}
 use Rattle.kex_words.specs.declared.card.Card.{Card}
 use Rattle.kex_words.specs.Passes.{TableNet, Pass, Held, times}
-use Rattle.kex_words.specs.Rule.{total}
+use Rattle.pass_roles.specs.Roles.{total}
 use Rattle.seat_names.specs.declared.turns.Through.{Through}
 use Rattle.kex_gate.specs.declared.view.Visit.{Visit}
 

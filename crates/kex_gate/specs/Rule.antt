@@ -5,9 +5,9 @@ use mathlib.Core.Option as maybe
 use lib.ListN.{get_elem?}
 use Rattle.atomic_table.specs.Table.{State}
 use Rattle.kex_words.specs.Passes.{TableNet, Pass, times}
-use Rattle.kex_words.specs.Rule.{total}
-use Rattle.kex_gate.specs.declared.view.Role.{Role}
-use Rattle.kex_gate.specs.declared.view.Role.TheVariants.{Maker, Party, Spent}
+use Rattle.pass_roles.specs.Roles.{total, weigh}
+use Rattle.pass_roles.specs.declared.role.Role.{Role}
+use Rattle.pass_roles.specs.declared.role.Role.TheVariants.{Maker, Party, Spent}
 use Rattle.kex_gate.specs.declared.view.Spot.{Spot}
 use Rattle.kex_gate.specs.declared.view.Spot.TheVariants.{Free, Testing, Taking, Fast, Clearing, Giving, Slow}
 use Rattle.kex_gate.specs.declared.view.Visit.{Visit}
@@ -99,24 +99,6 @@ MayStand m k (Fast i) = i < m
 MayStand m k (Clearing i) = i + 1 < m
 MayStand m k Giving = Unit {0}
 MayStand m k Slow = m ≤ k
-
--- how many passes the maker has dealt
-abbrev pub made_of : Role → ℕ
-made_of (Maker m) = m
-made_of (Party p) = 0
-made_of Spent = 0
-
--- the number of a session
-abbrev pub number_of : Role → ℕ
-number_of (Maker m) = 0
-number_of (Party p) = p
-number_of Spent = 0
-
--- how many numbers a view stands for, with k joined into it: the maker's are those that it has still to give
-abbrev pub weigh : ℕ → ℕ → Role → ℕ
-weigh n k (Maker m) = n - m
-weigh n k (Party p) = 1 + k
-weigh n k Spent = 0
 
 -- how often a number is a view's own or was joined into it
 abbrev pub numbered : ℕ → List ℕ → Role → ℕ

@@ -6,13 +6,13 @@ use Rattle.atomic_table.specs.Seated.{TableId}
 use Rattle.atomic_table.specs.Table.{Me, Step, rest}
 use Rattle.kex_core.specs.Shapes.{Sheet}
 use Rattle.kex_words.specs.Passes.{TableNet, Pass, times}
-use Rattle.kex_words.specs.Rule.{total}
-use Rattle.kex_gate.specs.declared.view.Role.TheVariants.{Maker, Party, Spent}
+use Rattle.pass_roles.specs.Roles.{total, made_of, number_of}
+use Rattle.pass_roles.specs.declared.role.Role.TheVariants.{Maker, Party, Spent}
 use Rattle.kex_gate.specs.declared.view.Spot.{Spot}
 use Rattle.kex_gate.specs.declared.view.Spot.TheVariants.{Free, Testing, Taking, Fast, Clearing, Giving, Slow}
 use Rattle.kex_gate.specs.declared.view.View.{View}
 use Rattle.kex_gate.specs.Passes.{Guest, Way, sessions, resting, slow_seats, own_pass}
-use Rattle.kex_gate.specs.Rule.{GateState, IsGate, made_of, number_of, busy_in, fast_worth}
+use Rattle.kex_gate.specs.Rule.{GateState, IsGate, busy_in, fast_worth}
 
 -- a seat's view, and the passes that it has out
 abbrev pub Self : Type 0

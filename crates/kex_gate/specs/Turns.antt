@@ -1,7 +1,7 @@
 -- What a turn at a gate leads to, and what a session met that took its place.
 use Rattle.std.specs.Prelude.{◌≡◌, ℕ, Bool}
 use Rattle.kex_words.specs.Passes.{Pass}
-use Rattle.kex_words.specs.Rule.{total}
+use Rattle.pass_roles.specs.Roles.{total}
 use Rattle.seat_names.specs.declared.turns.Turn.{Turn}
 use Rattle.seat_names.specs.declared.turns.Turn.TheVariants as turn
 use Rattle.seat_names.specs.Turns as seats

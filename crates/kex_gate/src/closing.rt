@@ -4,7 +4,7 @@ ghost use mathlib.Core.Option.{some};
 ghost use lib.ListN.{get_elem?};
 ghost use Rattle.std.specs.Slots.{slots_items, slots_filled, slots_len, IsFull};
 ghost use Rattle.kex_words.specs.Passes.{Pass, times};
-ghost use Rattle.kex_words.specs.Rule.{total};
+ghost use Rattle.pass_roles.specs.Roles.{total};
 ghost use Rattle.kex_gate.specs.Passes.{sessions, session_numbers, slow_of, taken_by, used_by};
 ghost use Rattle.kex_gate.specs.Steps.{IsGathered, IsIdle, guest_of, slot_worth, slot_number};
 

@@ -3,7 +3,7 @@ ghost use Rattle.std.specs.Prelude.{◌≡◌, ◌⊎◌, ℕ, ◌+◌, ◌<◌,
 ghost use mathlib.Core.Option.{none, some};
 ghost use lib.ListN.{get_elem?};
 ghost use Rattle.kex_words.specs.Passes.{TableNet, Pass};
-ghost use Rattle.kex_words.specs.Rule.{total};
+ghost use Rattle.pass_roles.specs.Roles.{total};
 ghost use Rattle.kex_gate.specs.declared.view.Spot.TheVariants.{Fast, Slow};
 ghost use Rattle.kex_gate.specs.declared.view.View.{View};
 ghost use Rattle.kex_gate.specs.Passes.{sessions};

@@ -1,16 +1,7 @@
 //! What a seat at the gate's table knows. No value of these types is made.
+use pass_roles::Role;
 use seat_names::Seats;
 use std::collections::LinkedList;
-
-/// Whose view it is.
-pub(crate) enum Role {
-    /// The one that deals the passes, with the number of those that were dealt.
-    Maker(u64),
-    /// A session's, with its number.
-    Party(u64),
-    /// None any more: it was joined into another.
-    Spent,
-}
 
 /// Where a session stands at the gate.
 pub(crate) enum Spot {

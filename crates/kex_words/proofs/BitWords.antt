@@ -9,10 +9,11 @@ use Rattle.kex_core.specs.Nets.{Plan}
 use Rattle.kex_core.specs.Worlds.{put, due, found, x_after, q_after, bit_after, card_after, accessed}
 use Rattle.kex_core.specs.Shapes.{plan}
 use Rattle.kex_words.specs.declared.card.Card.{Card}
-use Rattle.kex_words.specs.declared.view.Role.TheVariants.{Party}
+use Rattle.pass_roles.specs.declared.role.Role.TheVariants.{Party}
 use Rattle.kex_words.specs.declared.view.View.{View}
 use Rattle.kex_words.specs.Passes.{got_after}
-use Rattle.kex_words.specs.Rule.{number_of, IsReadOff}
+use Rattle.pass_roles.specs.Roles.{number_of}
+use Rattle.kex_words.specs.Rule.{IsReadOff}
 use Rattle.kex_words.specs.Steps.{Self, next_view, moved}
 use Rattle.kex_words.proofs.Places.{word_put}
 use Rattle.kex_words.proofs.Keeps.{told, reads_plain}

@@ -14,12 +14,14 @@ use Rattle.kex_core.specs.Shapes.{Sheet, plan}
 use Rattle.kex_core.proofs.Sums.{put_at, put_else}
 use Rattle.kex_core.proofs.Exports.{card_home, card_away}
 use Rattle.kex_words.specs.declared.card.Card.{Card}
-use Rattle.kex_words.specs.declared.view.Role.TheVariants.{Party}
+use Rattle.pass_roles.specs.declared.role.Role.TheVariants.{Party}
 use Rattle.kex_words.specs.declared.view.View.{View}
 use Rattle.kex_words.specs.Passes.{times, got_after}
-use Rattle.kex_words.specs.Rule.{total, took_of, number_of, Standing, Homes, IsHome, IsAway, IsReadOff}
+use Rattle.pass_roles.specs.Roles.{total, number_of}
+use Rattle.kex_words.specs.Rule.{took_of, Standing, Homes, IsHome, IsAway, IsReadOff}
 use Rattle.kex_words.specs.Steps.{Self, name_at, next_view, took, gave}
-use Rattle.kex_words.proofs.Members.{total_set, at_inside, once_more, as_often}
+use Rattle.pass_roles.proofs.Members.{total_set, at_inside}
+use Rattle.kex_words.proofs.Times.{once_more, as_often}
 use Rattle.kex_words.proofs.Places.{word_put, held_from}
 use Rattle.kex_words.proofs.Keeps.{own_owner, known, mine, there, told, reads}
 use Rattle.kex_words.proofs.StageWords.{low}

@@ -13,13 +13,15 @@ use Rattle.kex_core.specs.Sets.{has, held_at}
 use Rattle.kex_core.specs.Shapes.{Sheet}
 use Rattle.kex_core.proofs.Sums.{same_or, over_same, over_zero}
 use Rattle.kex_words.specs.declared.card.Card.{Card}
-use Rattle.kex_words.specs.declared.view.Role.{Role}
-use Rattle.kex_words.specs.declared.view.Role.TheVariants.{Maker, Party, Spent}
+use Rattle.pass_roles.specs.declared.role.Role.{Role}
+use Rattle.pass_roles.specs.declared.role.Role.TheVariants.{Maker, Party, Spent}
 use Rattle.kex_words.specs.declared.view.View.{View}
 use Rattle.kex_words.specs.Passes.{TableNet, TakenIn, IsSetUp, times, counted_card}
-use Rattle.kex_words.specs.Rule.{number_of, total, took_of, weigh, weight, Standing, Fits, HasNumber, IsHome, IsAway, IsReadOff}
+use Rattle.pass_roles.specs.Roles.{number_of, total, weigh}
+use Rattle.kex_words.specs.Rule.{took_of, weight, Standing, Fits, HasNumber, IsHome, IsAway, IsReadOff}
 use Rattle.kex_words.specs.Steps.{Self, taken_in, IsTakenIn}
-use Rattle.kex_words.proofs.Members.{total_two, total_alone, times_append}
+use Rattle.pass_roles.proofs.Members.{total_two, total_alone}
+use Rattle.kex_words.proofs.Times.{times_append}
 use Rattle.kex_words.proofs.Keeps.{knows}
 
 -- a view of no weight took nothing

@@ -4,7 +4,7 @@ use mathlib.Core.Option.{some, some-injective}
 use lib.ListN.{get_elem?}
 use Rattle.kex_core.proofs.Sums.{same_or}
 use Rattle.kex_words.specs.declared.card.Card.{Card}
-use Rattle.kex_words.proofs.Members.{got_front, got_last}
+use Rattle.pass_roles.proofs.Members.{got_front, got_last}
 
 emptied : (l : List Bool) (i : ℕ) → get_or (set l i false) i false ≡ false
 emptied [] i = refl

@@ -3,11 +3,12 @@ use Rattle.std.proofs.Common.{◌≡◌, ℕ, suc, ◌+◌, ◌<◌, List, [], �
 use Rattle.atomic_table.specs.Seated.{TableId}
 use Rattle.atomic_table.specs.Table.{Joins}
 use Rattle.kex_core.specs.Shapes.{Sheet}
-use Rattle.kex_words.specs.declared.view.Role.TheVariants.{Party}
+use Rattle.pass_roles.specs.declared.role.Role.TheVariants.{Party}
 use Rattle.kex_words.specs.Passes.{TableNet, Pass, TakenIn, IsSetUp, times}
-use Rattle.kex_words.specs.Rule.{number_of, IsReadOff}
+use Rattle.pass_roles.specs.Roles.{number_of}
+use Rattle.kex_words.specs.Rule.{IsReadOff}
 use Rattle.kex_words.specs.Steps.{Self, both, spent, taken_in, IsTakenIn, IsAtRest, numbers_of}
-use Rattle.kex_words.proofs.Members.{times_append}
+use Rattle.kex_words.proofs.Times.{times_append}
 use Rattle.kex_words.proofs.Join.{joins}
 
 pub joins_at : (id : TableId) (told net : Sheet) (self : TableNet) (seat_id other_id : TableId) (m w : Self) (seat other : ℕ) (g : TakenIn) (p : Pass)

@@ -11,13 +11,15 @@ use Rattle.kex_core.specs.Worlds.{Machine}
 use Rattle.kex_core.specs.Shapes.{Sheet}
 use Rattle.kex_core.proofs.Sums.{same_or}
 use Rattle.kex_words.specs.declared.card.Card.{Card}
-use Rattle.kex_words.specs.declared.view.Role.{Role}
-use Rattle.kex_words.specs.declared.view.Role.TheVariants.{Maker, Party, Spent}
+use Rattle.pass_roles.specs.declared.role.Role.{Role}
+use Rattle.pass_roles.specs.declared.role.Role.TheVariants.{Maker, Party, Spent}
 use Rattle.kex_words.specs.declared.view.View.{View}
 use Rattle.kex_words.specs.Passes.{times}
-use Rattle.kex_words.specs.Rule.{total, took_of, number_of, weigh, weight, Fits, HasNumber, IsHome, IsAway, IsReadOff}
+use Rattle.pass_roles.specs.Roles.{total, number_of, weigh}
+use Rattle.kex_words.specs.Rule.{took_of, weight, Fits, HasNumber, IsHome, IsAway, IsReadOff}
 use Rattle.kex_words.specs.Steps.{spent, both}
-use Rattle.kex_words.proofs.Members.{total_set, each_set, set_at, times_append}
+use Rattle.pass_roles.proofs.Members.{total_set, each_set, set_at}
+use Rattle.kex_words.proofs.Times.{times_append}
 use Rattle.kex_words.proofs.Keeps.{knows}
 
 abbrev St : Type 0

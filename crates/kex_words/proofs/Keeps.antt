@@ -17,13 +17,15 @@ use Rattle.kex_core.proofs.Sums.{put_here, put_else}
 use Rattle.kex_core.proofs.Costs.{cost_bound}
 use Rattle.kex_core.proofs.Exports.{kept_accessed, firsts_step}
 use Rattle.kex_words.specs.declared.card.Card.{Card}
-use Rattle.kex_words.specs.declared.view.Role.{Role}
-use Rattle.kex_words.specs.declared.view.Role.TheVariants.{Maker, Party, Spent}
+use Rattle.pass_roles.specs.declared.role.Role.{Role}
+use Rattle.pass_roles.specs.declared.role.Role.TheVariants.{Maker, Party, Spent}
 use Rattle.kex_words.specs.declared.view.View.{View}
 use Rattle.kex_words.specs.Passes.{times, got_after, stepped}
-use Rattle.kex_words.specs.Rule.{total, took_of, number_of, weight, Standing, Fits, HasNumber, Homes, IsHome, IsAway, IsReadOff}
+use Rattle.pass_roles.specs.Roles.{total, number_of}
+use Rattle.kex_words.specs.Rule.{took_of, weight, Standing, Fits, HasNumber, Homes, IsHome, IsAway, IsReadOff}
 use Rattle.kex_words.specs.Steps.{standing, next_view, Told}
-use Rattle.kex_words.proofs.Members.{total_set, each_set, set_at, own_number}
+use Rattle.pass_roles.proofs.Members.{total_set, each_set, set_at}
+use Rattle.kex_words.proofs.Times.{own_number}
 use Rattle.kex_words.proofs.Places.{kept_at_le, never_out}
 
 abbrev St : Type 0

@@ -1,4 +1,4 @@
-pub mod Members
+pub mod Times
 pub mod Places
 pub mod Keeps
 pub mod StageWords

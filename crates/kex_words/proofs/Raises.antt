@@ -9,7 +9,8 @@ use Rattle.kex_core.specs.Shapes.{plan}
 use Rattle.kex_words.specs.declared.card.Card.{Card}
 use Rattle.kex_words.specs.declared.view.View.{View}
 use Rattle.kex_words.specs.Passes.{Pass, stepped}
-use Rattle.kex_words.specs.Rule.{total, took_of, number_of}
+use Rattle.pass_roles.specs.Roles.{total, number_of}
+use Rattle.kex_words.specs.Rule.{took_of}
 use Rattle.kex_words.specs.Moves.{Moved}
 use Rattle.kex_words.specs.Steps.{Self, name_at, next_view, pass_of, took, IsPass}
 use Rattle.kex_words.proofs.Made.{nothing, of_view}

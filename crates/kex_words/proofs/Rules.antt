@@ -13,14 +13,15 @@ use Rattle.kex_core.proofs.Sums.{chosen}
 use Rattle.kex_core.proofs.Steps.{split}
 use Rattle.kex_core.proofs.Runs.{safe_of}
 use Rattle.kex_core.proofs.Exports.{move_is}
-use Rattle.kex_words.specs.declared.view.Role.TheVariants.{Party}
+use Rattle.pass_roles.specs.declared.role.Role.TheVariants.{Party}
 use Rattle.kex_words.specs.declared.view.View.{View}
-use Rattle.kex_words.specs.Rule.{number_of, IsReadOff}
+use Rattle.pass_roles.specs.Roles.{number_of}
+use Rattle.kex_words.specs.Rule.{IsReadOff}
 use Rattle.kex_words.specs.Passes.{Pass, due_at, stepped}
 use Rattle.kex_words.specs.Steps.{TableState, holding_seat}
 use Rattle.kex_words.specs.Laws.{word_at, told_by, uses_after, state_after, IsDue, Holds}
 use Rattle.kex_words.specs.Moves.{Moved, left_by}
-use Rattle.kex_words.proofs.Members.{set_at}
+use Rattle.pass_roles.proofs.Members.{set_at}
 use Rattle.kex_words.proofs.Places.{never_out}
 use Rattle.kex_words.proofs.Keeps.{knows, own_owner, mine, there}
 use Rattle.kex_words.proofs.StageWords.{low, dec_read, inc_read, look_read, spin_read, mark_read, unmark_read}

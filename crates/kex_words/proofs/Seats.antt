@@ -9,10 +9,11 @@ use Rattle.kex_core.specs.Worlds.{due}
 use Rattle.kex_core.specs.Laws.{Placed}
 use Rattle.kex_core.specs.Shapes.{Sheet, plan, IsNet}
 use Rattle.kex_core.proofs.Steps.{placed_due}
-use Rattle.kex_words.specs.declared.view.Role.TheVariants.{Party}
+use Rattle.pass_roles.specs.declared.role.Role.TheVariants.{Party}
 use Rattle.kex_words.specs.declared.card.Card.{Card}
 use Rattle.kex_words.specs.Passes.{TableNet, Pass, Held, IsSetUp}
-use Rattle.kex_words.specs.Rule.{number_of, IsReadOff}
+use Rattle.pass_roles.specs.Roles.{number_of}
+use Rattle.kex_words.specs.Rule.{IsReadOff}
 use Rattle.kex_words.specs.Steps.{Self, pass_of, held_of, name_at, IsPass, IsHolder, moved, took, gave}
 use Rattle.kex_words.proofs.StageWords.{decs, incs, looks, spins, marks, unmarks}
 use Rattle.kex_words.proofs.BitWords.{tests, clears}

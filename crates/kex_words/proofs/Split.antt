@@ -10,13 +10,15 @@ use Rattle.kex_core.specs.Worlds.{Machine, put}
 use Rattle.kex_core.specs.Shapes.{Sheet}
 use Rattle.kex_core.proofs.Sums.{same_or, put_at, put_else}
 use Rattle.kex_words.specs.declared.card.Card.{Card}
-use Rattle.kex_words.specs.declared.view.Role.{Role}
-use Rattle.kex_words.specs.declared.view.Role.TheVariants.{Maker, Party, Spent}
+use Rattle.pass_roles.specs.declared.role.Role.{Role}
+use Rattle.pass_roles.specs.declared.role.Role.TheVariants.{Maker, Party, Spent}
 use Rattle.kex_words.specs.declared.view.View.{View}
 use Rattle.kex_words.specs.Passes.{times}
-use Rattle.kex_words.specs.Rule.{total, took_of, made_of, number_of, weigh, weight, Making, Fits, IsHome, IsAway, IsReadOff}
+use Rattle.pass_roles.specs.Roles.{total, made_of, number_of, weigh}
+use Rattle.kex_words.specs.Rule.{took_of, weight, Making, Fits, IsHome, IsAway, IsReadOff}
 use Rattle.kex_words.specs.Steps.{dealt, newcomer}
-use Rattle.kex_words.proofs.Members.{total_set, total_snoc, each_set, each_snoc, set_at, times_head, times_other, own_number}
+use Rattle.pass_roles.proofs.Members.{total_set, total_snoc, each_set, each_snoc, set_at}
+use Rattle.kex_words.proofs.Times.{times_head, times_other, own_number}
 use Rattle.kex_words.proofs.Keeps.{dealt_set}
 
 abbrev St : Type 0

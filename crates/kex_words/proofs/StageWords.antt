@@ -12,10 +12,11 @@ use Rattle.kex_core.specs.Laws.{Placed}
 use Rattle.kex_core.specs.Shapes.{plan}
 use Rattle.kex_core.proofs.Exports.{due_placed, dec_above, inc_below, x_top}
 use Rattle.kex_words.specs.declared.card.Card.{Card}
-use Rattle.kex_words.specs.declared.view.Role.TheVariants.{Party}
+use Rattle.pass_roles.specs.declared.role.Role.TheVariants.{Party}
 use Rattle.kex_words.specs.declared.view.View.{View}
 use Rattle.kex_words.specs.Passes.{got_after}
-use Rattle.kex_words.specs.Rule.{number_of, IsReadOff}
+use Rattle.pass_roles.specs.Roles.{number_of}
+use Rattle.kex_words.specs.Rule.{IsReadOff}
 use Rattle.kex_words.specs.Steps.{Self, next_view, moved}
 use Rattle.kex_words.proofs.Places.{word_put, word_else, held_from}
 use Rattle.kex_words.proofs.Keeps.{mine, there, told, reads_plain}

@@ -14,7 +14,7 @@ use Rattle.kex_words.specs.declared.view.View.{View}
 use Rattle.kex_words.specs.Passes.{OpensWords, unused_card}
 use Rattle.kex_words.specs.Rule.{Fits, IsReadOff}
 use Rattle.kex_words.specs.Steps.{maker}
-use Rattle.kex_words.proofs.Members.{each_snoc}
+use Rattle.pass_roles.proofs.Members.{each_snoc}
 
 -- the counters of the stages below j are written
 abbrev pub Opened : Sheet → ℕ → List ℕ → Type 0

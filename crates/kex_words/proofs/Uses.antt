@@ -8,7 +8,8 @@ use lib.ListN.{get_elem?}
 use Rattle.kex_words.specs.declared.card.Card.{Card}
 use Rattle.kex_words.specs.Passes.{Pass, times, counted_card}
 use Rattle.kex_words.specs.Steps.{numbers_of}
-use Rattle.kex_words.proofs.Members.{at_all, all_at, times_head, times_other}
+use Rattle.pass_roles.proofs.Members.{at_all, all_at}
+use Rattle.kex_words.proofs.Times.{times_head, times_other}
 
 -- how often the n numbers from k on stand in a list
 abbrev span : ℕ → ℕ → List ℕ → ℕ

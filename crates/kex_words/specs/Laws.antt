@@ -6,9 +6,10 @@ use Rattle.kex_core.specs.declared.place.Place.{Place}
 use Rattle.kex_core.specs.declared.place.Place.TheVariants.{Out, Dec, Mark, Look, Spin, Naming, Named, Holding, Clearing, Inc, Unmark}
 use Rattle.kex_core.specs.Worlds.{due}
 use Rattle.kex_core.specs.Shapes.{Sheet, plan}
-use Rattle.kex_words.specs.declared.view.Role.TheVariants.{Party}
+use Rattle.pass_roles.specs.declared.role.Role.TheVariants.{Party}
 use Rattle.kex_words.specs.declared.view.View.{View}
-use Rattle.kex_words.specs.Rule.{total, took_of, number_of, Homes}
+use Rattle.pass_roles.specs.Roles.{total, number_of}
+use Rattle.kex_words.specs.Rule.{took_of, Homes}
 use Rattle.kex_words.specs.Steps.{TableState, next_view}
 
 -- the word of the access of this place

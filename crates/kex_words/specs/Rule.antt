@@ -1,5 +1,5 @@
 -- The rule of the table: the words, the cards at home and all views, read off, are a world that meets its invariant.
-use Rattle.std.specs.Prelude.{◌≡◌, ◌≢◌, ◌⊎◌, ℕ, ◌+◌, ◌-◌, ◌*◌, ◌%◌, ◌^◌, ◌<◌, ◌≤◌, List, [], ◌∷◌, length, slice_index, Option, Some}
+use Rattle.std.specs.Prelude.{◌≡◌, ◌≢◌, ◌⊎◌, ℕ, ◌+◌, ◌*◌, ◌%◌, ◌^◌, ◌<◌, ◌≤◌, List, [], ◌∷◌, length, slice_index, Option, Some}
 use mathlib.Core.Option.{none, some}
 use mathlib.Core.Option as maybe
 use lib.ListN.{get_elem?}
@@ -10,37 +10,15 @@ use Rattle.kex_core.specs.Laws.{Kept}
 use Rattle.kex_core.specs.Costs.{cost}
 use Rattle.kex_core.specs.Shapes.{Sheet, plan, IsNet}
 use Rattle.kex_words.specs.declared.card.Card.{Card}
-use Rattle.kex_words.specs.declared.view.Role.{Role}
-use Rattle.kex_words.specs.declared.view.Role.TheVariants.{Maker, Party, Spent}
+use Rattle.pass_roles.specs.Roles.{total, number_of, weigh}
+use Rattle.pass_roles.specs.declared.role.Role.{Role}
+use Rattle.pass_roles.specs.declared.role.Role.TheVariants.{Maker, Party, Spent}
 use Rattle.kex_words.specs.declared.view.View.{View}
 use Rattle.kex_words.specs.Passes.{times}
-
--- what all members are worth together
-abbrev pub total : {X : Type 0} → (X → ℕ) → List X → ℕ
-total f [] = 0
-total f (x ∷ xs) = f x + total f xs
 
 -- how often the view's party took the number s
 abbrev pub took_of : ℕ → View → ℕ
 took_of s v = times s v.got
-
--- how many passes the maker has dealt
-abbrev pub made_of : Role → ℕ
-made_of (Maker m) = m
-made_of (Party p) = 0
-made_of Spent = 0
-
--- the number of a party
-abbrev pub number_of : Role → ℕ
-number_of (Maker m) = 0
-number_of (Party p) = p
-number_of Spent = 0
-
--- how many numbers a view stands for, with k joined into it: the maker's are those that it has still to give
-abbrev pub weigh : ℕ → ℕ → Role → ℕ
-weigh n k (Maker m) = n - m
-weigh n k (Party p) = 1 + k
-weigh n k Spent = 0
 
 abbrev pub weight : ℕ → View → ℕ
 weight n v = weigh n (length v.joined) v.role

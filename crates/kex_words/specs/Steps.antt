@@ -11,10 +11,11 @@ use Rattle.kex_core.specs.Laws.{Placed}
 use Rattle.kex_core.specs.Costs.{bound}
 use Rattle.kex_core.specs.Shapes.{Sheet, plan}
 use Rattle.kex_words.specs.declared.card.Card.{Card}
-use Rattle.kex_words.specs.declared.view.Role.TheVariants.{Maker, Party, Spent}
+use Rattle.pass_roles.specs.declared.role.Role.TheVariants.{Maker, Party, Spent}
 use Rattle.kex_words.specs.declared.view.View.{View}
 use Rattle.kex_words.specs.Passes.{Pass, Held, TakenIn, due_at, stepped}
-use Rattle.kex_words.specs.Rule.{made_of, number_of, total, took_of, IsReadOff}
+use Rattle.pass_roles.specs.Roles.{made_of, number_of, total}
+use Rattle.kex_words.specs.Rule.{took_of, IsReadOff}
 
 -- the number of a place among the names
 abbrev pub name_at : Place → ℕ

@@ -10,7 +10,8 @@ ghost use lib.ListN.{get_elem?};
 ghost use Rattle.kex_words.specs.Laws.{state_after, uses_after, IsDue, Holds};
 ghost use Rattle.kex_words.specs.Moves.{Moved, left_by};
 ghost use Rattle.kex_words.specs.Passes.{Pass, due_at};
-ghost use Rattle.kex_words.specs.Rule.{number_of, IsReadOff};
+ghost use Rattle.pass_roles.specs.Roles.{number_of};
+ghost use Rattle.kex_words.specs.Rule.{IsReadOff};
 ghost use Rattle.kex_words.specs.Steps.{TableState, holding_seat};
 
 /// Each access is one move of the machine: where a table's state meets the rule, so does the state after a party's due access, and the world that is read off is the one after the party's move.

@@ -1,16 +1,7 @@
 //! What a seat at the table knows. No value of these types is made.
 use kex_core::{Net, Place};
+use pass_roles::Role;
 use std::collections::LinkedList;
-
-/// Whose view it is.
-pub(crate) enum Role {
-    /// The one that deals the passes, with the number of those that were dealt.
-    Maker(u64),
-    /// A party's, with its number.
-    Party(u64),
-    /// None any more: it was joined into another.
-    Spent,
-}
 
 /// What one seat knows.
 pub(crate) struct View {

@@ -9,7 +9,8 @@ ghost use Rattle.kex_words.specs.Passes.{Pass, IsOut, due_at, kind_of, entering,
 ghost use Rattle.kex_words.specs.Moves.{Moved};
 ghost use Rattle.kex_words.specs.Sorts.{pass_in_next, pass_in_back, kind_in_next, kind_in_back};
 ghost use Rattle.kex_words.specs.Steps.{pass_of, IsPass};
-ghost use Rattle.kex_words.specs.Rule.{total, took_of};
+ghost use Rattle.pass_roles.specs.Roles.{total};
+ghost use Rattle.kex_words.specs.Rule.{took_of};
 
 use crate::card::Card;
 use crate::passes::{Back, Entering, Hold, Leaving, Named, Naming, Next, Out, Seated};

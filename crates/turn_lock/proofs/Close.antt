@@ -8,16 +8,17 @@ use lib.ListN.{get_elem?, length-map}
 use Rattle.atomic_table.specs.Table.{State, Me, Final, Seen}
 use Rattle.atomic_table.proofs.Lists.{at_map, at_last, at_longer}
 use Rattle.turn_lock.specs.declared.kept.Entry.{Entry}
-use Rattle.turn_lock.specs.declared.view.Role.{Role}
-use Rattle.turn_lock.specs.declared.view.Role.TheVariants.{Maker, Party, Spent}
+use Rattle.pass_roles.specs.declared.role.Role.{Role}
+use Rattle.pass_roles.specs.declared.role.Role.TheVariants.{Maker, Party, Spent}
 use Rattle.turn_lock.specs.declared.view.Stage.TheVariants.{Idle}
 use Rattle.turn_lock.specs.declared.view.Joined.{Joined}
 use Rattle.turn_lock.specs.declared.view.View.{View}
 use Rattle.turn_lock.specs.Entries.{IsPrefix, own}
 use Rattle.turn_lock.specs.Passes.{Pass, Closes}
-use Rattle.turn_lock.specs.Rule.{has_entry, entries_in, is_out, weigh, weight, number_of, Standing, Fits, HasNumber, IsIn, IsOut, Ruled}
+use Rattle.pass_roles.specs.Roles.{weigh, number_of}
+use Rattle.turn_lock.specs.Rule.{has_entry, entries_in, is_out, weight, Standing, Fits, HasNumber, IsIn, IsOut, Ruled}
 use Rattle.turn_lock.specs.Steps.{joined_of, seated, IsGathered}
-use Rattle.turn_lock.proofs.Members.{total_none, total_two, at_append, at_unmap, at_one, index_of, all_at, at_all, at_inside}
+use Rattle.pass_roles.proofs.Members.{total_none, total_two, at_append, at_unmap, at_one, index_of, all_at, at_all, at_inside}
 use Rattle.turn_lock.proofs.Apart.{with_number, number_append, number_map, found, someone, it_or_not}
 use Rattle.turn_lock.proofs.Parts.{sums_same, parts_whole}
 use Rattle.turn_lock.proofs.Keeps.{knows}

@@ -7,14 +7,14 @@ use native.Mathlib.Decide.{dec_le}
 use lib.ListN.{get_elem?}
 use Rattle.atomic_table.specs.Table.{State, Me, step, keeps, Allows}
 use Rattle.turn_lock.specs.declared.kept.Entry.{Entry}
-use Rattle.turn_lock.specs.declared.view.Role.{Role}
-use Rattle.turn_lock.specs.declared.view.Role.TheVariants.{Maker, Party, Spent}
+use Rattle.pass_roles.specs.declared.role.Role.{Role}
+use Rattle.pass_roles.specs.declared.role.Role.TheVariants.{Maker, Party, Spent}
 use Rattle.turn_lock.specs.declared.view.Stage.TheVariants.{Out, Counted}
 use Rattle.turn_lock.specs.declared.view.View.{View}
 use Rattle.turn_lock.specs.Passes.{Pass}
 use Rattle.turn_lock.specs.Rule.{has_ticket, has_entry, is_out, weight, tickets_in, entries_in, Stays, Fits, Ruled}
 use Rattle.turn_lock.specs.Steps.{seated, longer, counted}
-use Rattle.turn_lock.proofs.Members.{total_set, total_none, each_set, set_at}
+use Rattle.pass_roles.proofs.Members.{total_set, total_none, each_set, set_at}
 use Rattle.turn_lock.proofs.Stays.{stays_longer, entry_has}
 use Rattle.turn_lock.proofs.Owned.{own_other, own_mine}
 use Rattle.turn_lock.proofs.Keeps.{kept_set, maker_set, knows, stage_is, not_home, same_words}

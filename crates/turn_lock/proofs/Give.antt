@@ -9,7 +9,7 @@ use Rattle.turn_lock.specs.declared.view.View.{View}
 use Rattle.turn_lock.specs.Passes.{Pass}
 use Rattle.turn_lock.specs.Rule.{is_out, Ruled}
 use Rattle.turn_lock.specs.Steps.{seated, gave}
-use Rattle.turn_lock.proofs.Members.{each_set}
+use Rattle.pass_roles.proofs.Members.{each_set}
 use Rattle.turn_lock.proofs.Keeps.{restage, knows, stage_is, alone, not_home, same_words}
 
 module _ {V L Q A : Type 0} (law_of : V → L) (party : Q → ℕ) (run : L → List (Entry Q A) → Type 0) (stands : V → List (Entry Q A) → Type 0) (law : L) (n : ℕ) where

@@ -8,16 +8,17 @@ use lib.ListN.{get_elem?}
 use Rattle.atomic_table.specs.Table.{State, Me, Joins}
 use Rattle.atomic_table.proofs.Lists.{at_set, set_else, at_longer}
 use Rattle.turn_lock.specs.declared.kept.Entry.{Entry}
-use Rattle.turn_lock.specs.declared.view.Role.{Role}
-use Rattle.turn_lock.specs.declared.view.Role.TheVariants.{Maker, Party, Spent}
+use Rattle.pass_roles.specs.declared.role.Role.{Role}
+use Rattle.pass_roles.specs.declared.role.Role.TheVariants.{Maker, Party, Spent}
 use Rattle.turn_lock.specs.declared.view.Stage.TheVariants.{Idle}
 use Rattle.turn_lock.specs.declared.view.Joined.{Joined}
 use Rattle.turn_lock.specs.declared.view.View.{View}
 use Rattle.turn_lock.specs.Entries.{IsPrefix, own}
 use Rattle.turn_lock.specs.Passes.{Pass}
-use Rattle.turn_lock.specs.Rule.{has_ticket, has_entry, is_out, weigh, weight, tickets_in, entries_in, number_of, Stays, Fits, HasNumber, HasSeen, IsLongest, Ruled}
+use Rattle.pass_roles.specs.Roles.{weigh, number_of}
+use Rattle.turn_lock.specs.Rule.{has_ticket, has_entry, is_out, weight, tickets_in, entries_in, Stays, Fits, HasNumber, HasSeen, IsLongest, Ruled}
 use Rattle.turn_lock.specs.Steps.{spent, joined_of, both}
-use Rattle.turn_lock.proofs.Members.{total_set, each_set, set_at, at_append, at_behind}
+use Rattle.pass_roles.proofs.Members.{total_set, each_set, set_at, at_append, at_behind}
 use Rattle.turn_lock.proofs.Apart.{with_number, number_cons, found, once_in_both}
 use Rattle.turn_lock.proofs.Owners.{moved, moved_here, moved_else}
 use Rattle.turn_lock.proofs.Keeps.{knows, maker_set, value_set, value_stays}

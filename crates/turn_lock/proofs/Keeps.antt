@@ -9,15 +9,16 @@ use lib.Seq.{set-get_or}
 use Rattle.atomic_table.specs.Table.{State, Me}
 use Rattle.atomic_table.proofs.Lists.{set_else}
 use Rattle.turn_lock.specs.declared.kept.Entry.{Entry}
-use Rattle.turn_lock.specs.declared.view.Role.{Role}
-use Rattle.turn_lock.specs.declared.view.Role.TheVariants.{Maker, Party, Spent}
+use Rattle.pass_roles.specs.declared.role.Role.{Role}
+use Rattle.pass_roles.specs.declared.role.Role.TheVariants.{Maker, Party, Spent}
 use Rattle.turn_lock.specs.declared.view.Stage.{Stage}
 use Rattle.turn_lock.specs.declared.view.Stage.TheVariants.{Idle, Waiting, Turn, Out, Counted, Home}
 use Rattle.turn_lock.specs.declared.view.View.{View}
 use Rattle.turn_lock.specs.Entries.{IsPrefix, own}
 use Rattle.turn_lock.specs.Passes.{Pass}
-use Rattle.turn_lock.specs.Rule.{total, has_ticket, is_out, weigh, weight, tickets_in, has_entry, entries_in, Stays, Standing, Fits, HasNumber, HasSeen, IsLongest, IsIn, IsOut, Ruled}
-use Rattle.turn_lock.proofs.Members.{total_set, total_le, each_set, set_at}
+use Rattle.pass_roles.specs.Roles.{total, weigh}
+use Rattle.turn_lock.specs.Rule.{has_ticket, is_out, weight, tickets_in, has_entry, entries_in, Stays, Standing, Fits, HasNumber, HasSeen, IsLongest, IsIn, IsOut, Ruled}
+use Rattle.pass_roles.proofs.Members.{total_set, total_le, each_set, set_at}
 use Rattle.turn_lock.proofs.Stays.{out_has}
 
 module _ {V L Q A : Type 0} (law_of : V → L) (party : Q → ℕ) (run : L → List (Entry Q A) → Type 0) (stands : V → List (Entry Q A) → Type 0) (law : L) (n : ℕ) where

@@ -1,4 +1,3 @@
-pub mod Members
 pub mod Owners
 pub mod Stays
 pub mod Owned

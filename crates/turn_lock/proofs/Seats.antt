@@ -2,7 +2,7 @@
 use Rattle.std.proofs.Common.{◌≡◌, ℕ, ◌+◌, ◌<◌, length, arith, List, [], ◌∷◌, map, sym, ap, ◌∙◌, Option, Some}
 use Rattle.std.proofs.Math.Nat.{lt_irrefl}
 use Rattle.atomic_table.specs.Table.{Me, rest}
-use Rattle.turn_lock.specs.declared.view.Role.TheVariants.{Party}
+use Rattle.pass_roles.specs.declared.role.Role.TheVariants.{Party}
 use Rattle.turn_lock.specs.declared.view.Stage.TheVariants.{Idle}
 use Rattle.turn_lock.specs.declared.view.View.{View}
 use Rattle.turn_lock.specs.Passes.{LockId, Pass}

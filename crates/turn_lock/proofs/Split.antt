@@ -8,13 +8,14 @@ use lib.ListN.{get_elem?}
 use Rattle.atomic_table.specs.Table.{State, Me, Splits}
 use Rattle.atomic_table.proofs.Lists.{at_last, at_longer}
 use Rattle.turn_lock.specs.declared.kept.Entry.{Entry}
-use Rattle.turn_lock.specs.declared.view.Role.{Role}
-use Rattle.turn_lock.specs.declared.view.Role.TheVariants.{Maker, Party, Spent}
+use Rattle.pass_roles.specs.declared.role.Role.{Role}
+use Rattle.pass_roles.specs.declared.role.Role.TheVariants.{Maker, Party, Spent}
 use Rattle.turn_lock.specs.declared.view.View.{View}
 use Rattle.turn_lock.specs.Passes.{Pass}
-use Rattle.turn_lock.specs.Rule.{is_out, weigh, weight, tickets_in, entries_in, made_of, Stays, Making, Fits, HasSeen, IsIn, IsOut, Ruled}
+use Rattle.pass_roles.specs.Roles.{weigh, made_of}
+use Rattle.turn_lock.specs.Rule.{is_out, weight, tickets_in, entries_in, Stays, Making, Fits, HasSeen, IsIn, IsOut, Ruled}
 use Rattle.turn_lock.specs.Steps.{dealt, newcomer}
-use Rattle.turn_lock.proofs.Members.{total_set, total_snoc, each_set, each_snoc, set_at, at_inside}
+use Rattle.pass_roles.proofs.Members.{total_set, total_snoc, each_set, each_snoc, set_at, at_inside}
 use Rattle.turn_lock.proofs.Owners.{put, put_here, put_else}
 use Rattle.turn_lock.proofs.Keeps.{kept_set, longest_set, value_stays}
 

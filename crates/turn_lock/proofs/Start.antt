@@ -8,7 +8,7 @@ use Rattle.turn_lock.specs.declared.view.View.{View}
 use Rattle.turn_lock.specs.Passes.{Pass}
 use Rattle.turn_lock.specs.Rule.{is_out, Stays, Fits, Ruled}
 use Rattle.turn_lock.specs.Steps.{maker}
-use Rattle.turn_lock.proofs.Members.{each_snoc}
+use Rattle.pass_roles.proofs.Members.{each_snoc}
 
 module _ {V L Q A : Type 0} (law_of : V → L) (party : Q → ℕ) (run : L → List (Entry Q A) → Type 0) (stands : V → List (Entry Q A) → Type 0) (law : L) (n : ℕ) where
   abbrev P : Type 0

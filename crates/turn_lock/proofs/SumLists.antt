@@ -7,7 +7,7 @@ use Rattle.std.proofs.lemmas.Option.{slice_get_within}
 use Rattle.turn_lock.specs.declared.kept.Entry.{Entry}
 use Rattle.turn_lock.specs.declared.sum.Addend.{Addend}
 use Rattle.turn_lock.specs.Sums.{total_of, IsRun}
-use Rattle.turn_lock.proofs.Members.{got_snoc}
+use Rattle.pass_roles.proofs.Members.{got_snoc}
 
 pub total_longer : (h : List (Entry Addend ℕ)) (e : Entry Addend ℕ) → total_of (h ++ e ∷ []) ≡ (total_of h + e.request.amount) % 2 ^ 64
 total_longer h e = let s = sum_by-append (λ (x : Entry Addend ℕ). x.request.amount) h (e ∷ []) in omega arith

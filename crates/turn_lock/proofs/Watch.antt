@@ -7,7 +7,7 @@ use native.Mathlib.Decide.{ℕ_discrete}
 use Rattle.atomic_table.specs.Table.{State, Me, step, keeps, Allows}
 use Rattle.atomic_table.proofs.Lists.{one_turn}
 use Rattle.turn_lock.specs.declared.kept.Entry.{Entry}
-use Rattle.turn_lock.specs.declared.view.Role.TheVariants.{Party}
+use Rattle.pass_roles.specs.declared.role.Role.TheVariants.{Party}
 use Rattle.turn_lock.specs.declared.view.Stage.TheVariants.{Waiting, Turn}
 use Rattle.turn_lock.specs.declared.view.View.{View}
 use Rattle.turn_lock.specs.Passes.{Pass}

@@ -1,22 +1,18 @@
 -- The rule of the lock's table.
-use Rattle.std.specs.Prelude.{◌≡◌, ◌≢◌, ◌⊎◌, ℕ, ◌+◌, ◌-◌, ◌%◌, ◌^◌, ◌<◌, ◌≤◌, ◌==◌, Bool, true, false, List, [], ◌∷◌, length, count_by, slice_index, Option, Some}
+use Rattle.std.specs.Prelude.{◌≡◌, ◌≢◌, ◌⊎◌, ℕ, ◌+◌, ◌%◌, ◌^◌, ◌<◌, ◌≤◌, ◌==◌, Bool, true, false, List, [], ◌∷◌, length, count_by, slice_index, Option, Some}
 use mathlib.Core.Option.{some, none}
 use mathlib.Core.Option as maybe
 use lib.ListN.{get_elem?}
 use Rattle.atomic_table.specs.Table.{State}
 use Rattle.turn_lock.specs.declared.kept.Entry.{Entry}
-use Rattle.turn_lock.specs.declared.view.Role.{Role}
-use Rattle.turn_lock.specs.declared.view.Role.TheVariants.{Maker, Party, Spent}
+use Rattle.pass_roles.specs.Roles.{total, weigh}
+use Rattle.pass_roles.specs.declared.role.Role.{Role}
+use Rattle.pass_roles.specs.declared.role.Role.TheVariants.{Maker, Party, Spent}
 use Rattle.turn_lock.specs.declared.view.Stage.{Stage}
 use Rattle.turn_lock.specs.declared.view.Stage.TheVariants.{Idle, Waiting, Turn, Out, Counted, Home}
 use Rattle.turn_lock.specs.declared.view.Joined.{Joined}
 use Rattle.turn_lock.specs.declared.view.View.{View}
 use Rattle.turn_lock.specs.Entries.{own, IsPrefix}
-
--- what all members are worth together
-abbrev pub total : {X : Type 0} → (X → ℕ) → List X → ℕ
-total f [] = 0
-total f (x ∷ xs) = f x + total f xs
 
 -- how many tickets a seat has at a stage
 abbrev pub has_ticket : Stage → ℕ
@@ -44,24 +40,6 @@ is_out (Turn t) = false
 is_out (Out t) = true
 is_out (Counted t) = true
 is_out (Home t) = false
-
--- how many passes the maker has dealt
-abbrev pub made_of : Role → ℕ
-made_of (Maker m) = m
-made_of (Party p) = 0
-made_of Spent = 0
-
--- the number of a pass
-abbrev pub number_of : Role → ℕ
-number_of (Maker m) = 0
-number_of (Party p) = p
-number_of Spent = 0
-
--- how many numbers a view stands for, with k joined into it: the maker's are those that it has still to give
-abbrev pub weigh : ℕ → ℕ → Role → ℕ
-weigh n k (Maker m) = n - m
-weigh n k (Party p) = 1 + k
-weigh n k Spent = 0
 
 abbrev pub tickets_in : {L Q A : Type 0} → View L Q A → ℕ
 tickets_in v = has_ticket v.stage

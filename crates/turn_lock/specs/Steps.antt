@@ -3,14 +3,14 @@ use Rattle.std.specs.Prelude.{◌≡◌, ◌≢◌, ℕ, ◌+◌, ◌%◌, ◌^�
 use Rattle.std.proofs.Math.Nat.{lt_irrefl}
 use Rattle.atomic_table.specs.Table.{Me, Step}
 use Rattle.turn_lock.specs.declared.kept.Entry.{Entry}
-use Rattle.turn_lock.specs.declared.view.Role.TheVariants.{Maker, Party, Spent}
+use Rattle.pass_roles.specs.declared.role.Role.TheVariants.{Maker, Party, Spent}
 use Rattle.turn_lock.specs.declared.view.Stage.{Stage}
 use Rattle.turn_lock.specs.declared.view.Stage.TheVariants.{Idle, Waiting, Turn, Out, Counted, Home}
 use Rattle.turn_lock.specs.declared.view.Joined.{Joined}
 use Rattle.turn_lock.specs.declared.view.View.{View}
 use Rattle.turn_lock.specs.Entries.{own, IsPrefix}
 use Rattle.turn_lock.specs.Passes.{LockId, Pass}
-use Rattle.turn_lock.specs.Rule.{made_of, number_of}
+use Rattle.pass_roles.specs.Roles.{made_of, number_of}
 
 -- the first of a list that is not empty
 abbrev pub the_first : {X : Type 0} → (xs : List X) → 0 < length xs → X

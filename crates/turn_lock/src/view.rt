@@ -1,16 +1,7 @@
 //! What a seat at the lock's table knows. No value of these types is made.
 use crate::kept::Entry;
+use pass_roles::Role;
 use std::collections::LinkedList;
-
-/// Whose view it is.
-pub(crate) enum Role {
-    /// The one that deals the passes, with the number of those that were dealt.
-    Maker(u64),
-    /// A pass, with its number.
-    Party(u64),
-    /// None any more: it was joined into another.
-    Spent,
-}
 
 /// How far a seat has come in its turn. The number is its ticket, which is not cut to the width of a word.
 pub(crate) enum Stage {

@@ -1,6 +1,6 @@
 use Rattle.std.proofs.Common.{◌≡◌, ℕ, ◌+◌, ◌++◌, ◌∷◌, [], List, reverse, length, vec_len, ap, sym, ◌∙◌, subst, arith, length-append}
 use Rattle.stat_board.specs.Fronts.{Front}
-use Rattle.turn_lock.proofs.Members.{all_cut, front_of}
+use Rattle.pass_roles.proofs.Members.{all_cut, front_of}
 use Rattle.turn_lock.specs.Passes.{Lock, unused}
 use Rattle.desk_book.specs.declared.book.DeskLaw.{DeskLaw}
 use Rattle.desk_book.specs.Askers.{Asker, Ticket, asker_of, newcomer}

@@ -1,5 +1,5 @@
 use Rattle.std.proofs.Common.{◌≡◌, ℕ, ◌+◌, ◌++◌, ◌∷◌, [], List, reverse, length, vec_len, ap, sym, ◌∙◌, subst, arith, length-append}
-use Rattle.turn_lock.proofs.Members.{front_of}
+use Rattle.pass_roles.proofs.Members.{front_of}
 use Rattle.feature_desk.specs.Sitters.{DeskView, Sitter, newcomer}
 use Rattle.feature_desk.proofs.Pairs.{all_made, newcomer_fits, newcomers, newcomers_own, one_more, popped_is, popped_left}
 use Rattle.feature_desk.proofs.making.pair.Goals as goal

@@ -1,5 +1,5 @@
 use Rattle.std.proofs.Common.{◌≡◌, [], ◌∷◌, ◌∙◌}
-use Rattle.kex_words.proofs.Members.{all_cut, front_of, moved_on}
+use Rattle.pass_roles.proofs.Members.{all_cut, front_of, moved_on}
 use Rattle.kex_gate.specs.Passes.{Guest}
 use Rattle.kex_gate.proofs.Gathers.{own_table, gathered_first, gathered_on, numbers_on, slow_on, joins_at}
 use Rattle.kex_gate.proofs.closing.gather.Goals as goal

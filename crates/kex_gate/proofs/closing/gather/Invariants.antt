@@ -1,6 +1,6 @@
 use Rattle.std.proofs.Common.{◌≡◌, ℕ, List, ◌++◌, vec_len, All}
 use Rattle.kex_words.specs.Passes.{times}
-use Rattle.kex_words.specs.Rule.{total}
+use Rattle.pass_roles.specs.Roles.{total}
 use Rattle.kex_gate.specs.Passes.{Guest, session_numbers, slow_of}
 use Rattle.kex_gate.specs.Steps.{IsGathered}
 use Rattle.kex_gate.proofs.closing.gather.Given as goal

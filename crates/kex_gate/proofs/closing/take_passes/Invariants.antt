@@ -1,7 +1,7 @@
 use Rattle.std.proofs.Common.{◌≡◌, ℕ, ◌+◌, ◌<◌, ◌≤◌, true, false, drop, length, slice_index_or}
 use Rattle.std.specs.Slots.{slots_items, slots_filled, slots_len}
 use Rattle.kex_words.specs.Passes.{times}
-use Rattle.kex_words.specs.Rule.{total}
+use Rattle.pass_roles.specs.Roles.{total}
 use Rattle.kex_gate.specs.Steps.{slot_worth, slot_number}
 use Rattle.kex_gate.proofs.closing.take_passes.Given as goal
 

@@ -1,5 +1,5 @@
 use Rattle.std.proofs.Common.{◌++◌, ◌∷◌, [], List, length, ap, sym, ◌∙◌, subst, arith}
-use Rattle.turn_lock.proofs.Members.{front_of}
+use Rattle.pass_roles.proofs.Members.{front_of}
 use Rattle.desk_book.specs.declared.end.DeskLog.{DeskLog}
 use Rattle.feature_desk.specs.declared.closing.DeskTally.{DeskTally}
 use Rattle.licence_office.proofs.Ended.{Closes, closable_last, closes_all, closes_more, closes_none, each_has_one}

@@ -1,6 +1,6 @@
 use Rattle.std.proofs.Common.{◌≡◌, ◌+◌, ◌++◌, ◌∷◌, [], length, vec_len, ap, sym, ◌∙◌, arith, length-append}
 use Rattle.std.proofs.lemmas.List.{get_or_append_left, get_or_push}
-use Rattle.turn_lock.proofs.Members.{front_of}
+use Rattle.pass_roles.proofs.Members.{front_of}
 use Rattle.feature_desk.specs.Sitters.{Sitter}
 use Rattle.std.proofs.Common.{List, get_or}
 use Rattle.licence_office.proofs.Dealt.{handed_more}

@@ -1,6 +1,6 @@
 use Rattle.std.proofs.Common.{◌≡◌, ℕ, zero, suc, ◌++◌, [], ◌∷◌, List, All, Vec, Global, get_or, length, map, subst, sym, arith}
 use Rattle.std.proofs.lemmas.List.Elements.{All-append}
-use Rattle.turn_lock.proofs.Members.{all_cut, front_of}
+use Rattle.pass_roles.proofs.Members.{all_cut, front_of}
 use Rattle.feature_desk.specs.Sitters.{DeskView, Sitter, newcomer}
 use Rattle.licence_office.specs.Offices.{AreAt}
 use Rattle.office_view.specs.View.{View}

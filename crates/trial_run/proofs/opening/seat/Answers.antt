@@ -1,7 +1,7 @@
 use Rattle.std.proofs.Common.{◌≡◌, ◌∙◌, ◌++◌, ◌∷◌, [], All, ap, reverse, sym, subst, arith}
 use Rattle.std.proofs.lemmas.List.Elements.{All-append}
 use Rattle.std.proofs.lemmas.List.Sorted.{All-permutation}
-use Rattle.turn_lock.proofs.Members.{all_cut, front_of}
+use Rattle.pass_roles.proofs.Members.{all_cut, front_of}
 use Rattle.daemon_run.proofs.Splitting.{none_left, popped}
 use Rattle.trial_run.specs.Fresh.{IsFresh}
 use Rattle.trial_run.specs.Played.{counters_of}

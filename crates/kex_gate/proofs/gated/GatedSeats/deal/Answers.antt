@@ -1,5 +1,5 @@
 use Rattle.std.proofs.Common.{◌≡◌, arith, ap, ◌∙◌, sym, subst, slice_get, Some, EachIndex}
-use Rattle.kex_words.proofs.Members.{each_more}
+use Rattle.pass_roles.proofs.Members.{each_more}
 use Rattle.kex_gate.specs.Passes.{fresh}
 use Rattle.kex_gate.proofs.Start.{splits_at, rests_new, came_new, row_first, row_on, dealt_on, is_fresh, sessions_is}
 use Rattle.kex_gate.proofs.gated.GatedSeats.deal.Goals as goal

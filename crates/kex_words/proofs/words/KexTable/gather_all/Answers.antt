@@ -3,7 +3,7 @@ use Rattle.std.proofs.lemmas.List.Sums.{sum_by-cons}
 use Rattle.kex_words.specs.Passes.{times}
 use Rattle.kex_words.specs.Steps.{numbers_of}
 use Rattle.kex_words.proofs.Gathers.{times_after}
-use Rattle.kex_words.proofs.Members.{all_cut, all_gone, front_of, moved_on}
+use Rattle.pass_roles.proofs.Members.{all_cut, all_gone, front_of, moved_on}
 use Rattle.kex_words.proofs.words.KexTable.gather_all.Goals as goal
 
 pub loop-pass-init : goal.loop-pass-init

@@ -1,7 +1,7 @@
 use Rattle.std.proofs.Common.{◌≡◌, ℕ, zero, suc, ◌<◌, ◌++◌, ◌∷◌, [], List, All, Vec, Global, length, get_or, set, ap, sym, ◌∙◌, subst, arith}
 use Rattle.std.proofs.lemmas.List.{get_or-set_other, get_or-set_same, get_or_default, length-set}
 use Rattle.std.proofs.lemmas.List.Elements.{All-append}
-use Rattle.turn_lock.proofs.Members.{all_cut, front_of}
+use Rattle.pass_roles.proofs.Members.{all_cut, front_of}
 use Rattle.feature_desk.specs.Closings.{Rests}
 use Rattle.feature_desk.specs.Sitters.{DeskView, IsOf, Sitter}
 use Rattle.office_view.specs.View.{View}

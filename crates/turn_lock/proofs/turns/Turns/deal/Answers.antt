@@ -1,7 +1,7 @@
 use Rattle.std.proofs.Common.{◌≡◌, refl, arith, ap, ◌∙◌, sym, subst, slice_get, Some, EachIndex}
 use Rattle.turn_lock.specs.Passes.{unused}
 use Rattle.turn_lock.proofs.Split.{deals}
-use Rattle.turn_lock.proofs.Members.{each_more}
+use Rattle.pass_roles.proofs.Members.{each_more}
 use Rattle.turn_lock.proofs.Seats.{dealt_on, came_new, is_pass, badge_of}
 use Rattle.turn_lock.proofs.turns.Turns.deal.Goals as goal
 

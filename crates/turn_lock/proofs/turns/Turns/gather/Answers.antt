@@ -1,6 +1,6 @@
 use Rattle.std.proofs.Common.{◌≡◌, [], ◌∷◌, arith, ap, ◌∙◌, sym}
 use Rattle.turn_lock.proofs.Join.{joins}
-use Rattle.turn_lock.proofs.Members.{all_cut, all_gone, front_of, moved_over}
+use Rattle.pass_roles.proofs.Members.{all_cut, all_gone, front_of, moved_over}
 use Rattle.turn_lock.proofs.Seats.{joined_on}
 use Rattle.turn_lock.proofs.turns.Turns.gather.Goals as goal
 

@@ -5,7 +5,7 @@ use mathlib.Core.Logic.{dite}
 use native.Mathlib.Decide.{dec_le}
 use lib.ListN.{get_elem?}
 use Rattle.atomic_table.proofs.Lists.{at_set, at_last, at_longer}
-use Rattle.turn_lock.specs.Rule.{total}
+use Rattle.pass_roles.specs.Roles.{total}
 
 module _ {X : Type 0} where
   pub total_set : (f : X → ℕ) (l : List X) (i : ℕ) (v w : X) → get_elem? l i ≡ some v → total f (set l i w) + f v ≡ total f l + f w
@@ -20,6 +20,12 @@ module _ {X : Type 0} where
   pub total_none : (f : X → ℕ) (l : List X) → ((j : ℕ) (v : X) → get_elem? l j ≡ some v → f v ≡ 0) → total f l ≡ 0
   total_none f [] h = refl
   total_none f (x ∷ xs) h = let a = h 0 x refl in let b = total_none f xs (λ j v e. h (suc j) v e) in omega arith
+
+  -- where all but one are worth nothing
+  pub total_alone : (f : X → ℕ) (l : List X) (i : ℕ) (v : X) → get_elem? l i ≡ some v → ((j : ℕ) (d : X) → j ≢ i → get_elem? l j ≡ some d → f d ≡ 0) → total f l ≡ f v
+  total_alone f [] i v e h = absurd (some-ne-none v (sym e))
+  total_alone f (x ∷ xs) zero v e h = let q : f x ≡ f v = ap f (some-injective x v e) in let b = total_none f xs (λ j d g. h (suc j) d (λ z. omega arith) g) in omega arith
+  total_alone f (x ∷ xs) (suc i) v e h = let a : f x ≡ 0 = h 0 x (λ z. omega arith) refl in let b = total_alone f xs i v e (λ j d n g. h (suc j) d (λ z. n (omega arith)) g) in omega arith
 
   -- one member's share of a sum
   pub total_has : (f : X → ℕ) (l : List X) (i : ℕ) (v : X) → get_elem? l i ≡ some v → f v ≤ total f l
@@ -118,15 +124,18 @@ module _ {X : Type 0} where
   pub front_of : (l m : List X) (o : Option X) (x : X) → l ≡ m ++ option_to_list o → o ≡ Some x → l ≡ m ++ x ∷ []
   front_of l m o x e is = e ∙ ap (λ (z : Option X). m ++ option_to_list z) is
 
+  pub moved_on : (zs a b done : List X) (w : X) → zs ≡ a ++ done → a ≡ b ++ w ∷ [] → zs ≡ b ++ (w ∷ done)
+  moved_on zs a b done w is e = is ∙ (ap (λ l. l ++ done) e ∙ append_assoc b (w ∷ []) done)
+
   pub moved_over : (zs a b done : List X) (w first : X) → zs ≡ a ++ (done ++ first ∷ []) → a ≡ b ++ w ∷ [] → zs ≡ b ++ ((w ∷ done) ++ first ∷ [])
   moved_over zs a b done w first is e = is ∙ (ap (λ l. l ++ (done ++ first ∷ [])) e ∙ append_assoc b (w ∷ []) (done ++ first ∷ []))
 
-  got_front : (l m : List X) (i : ℕ) → i < length l → slice_get (l ++ m) i ≡ slice_get l i
+  pub got_front : (l m : List X) (i : ℕ) → i < length l → slice_get (l ++ m) i ≡ slice_get l i
   got_front [] m i lt = absurd (omega arith)
   got_front (x ∷ xs) m zero lt = refl
   got_front (x ∷ xs) m (suc i) lt = got_front xs m i (omega arith)
 
-  got_last : (l : List X) (x : X) → slice_get (l ++ x ∷ []) (length l) ≡ Some x
+  pub got_last : (l : List X) (x : X) → slice_get (l ++ x ∷ []) (length l) ≡ Some x
   got_last [] x = refl
   got_last (y ∷ ys) x = got_last ys x
 
