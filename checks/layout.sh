@@ -28,7 +28,7 @@ done
 # A look without a seat tells nothing, so no contract can refuse one: the lock has it before it draws, and nobody else.
 stray=$(find crates/*/src -name '*.rt' -exec awk '
     / fn / || /^fn / { named = $0; sub(/.*fn /, "", named) }
-    /peek\([^)]/ && !(FILENAME == "crates/turn_lock/src/turns.rt" && named ~ /^look_before[<(]/) { print FILENAME " line " FNR }
+    /peek\([^)]/ && !(FILENAME == "crates/turn_lock/src/turns.rt" && named ~ /^draw[<(]/) { print FILENAME " line " FNR }
 ' {} +)
 [ -z "$stray" ] || say "a look without a seat: $stray"
 
