@@ -4,6 +4,7 @@ ghost use Rattle.licence_office.specs.Offices.{AreAt, AreDealt};
 ghost use Rattle.office_rows.specs.Ready.{HasSets, IsReady};
 
 mod daemons;
+mod glances;
 mod offices;
 
 use feature_desk::Desk;

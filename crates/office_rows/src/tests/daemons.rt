@@ -5,6 +5,7 @@ ghost use Rattle.daemon_run.specs.Join.{HasSets};
 
 mod site;
 
+use daemon_outside::Site;
 use daemon_run::{Ended, serve};
 use feature_lines::read_licence;
 use licence_office::{Office, OfficeEnd, OfficePass};
@@ -36,9 +37,9 @@ fn office_of(rt: &(impl Abort + Wait + AllocGlobal)) -> Result<(Office, Vec<Offi
 }
 
 /// Serves two parties at a site.
-fn serve_two(
+pub fn serve_two(
     rt: &(impl Abort + Threads + Wait + AllocGlobal + Sync),
-    site: &mut TextSite,
+    site: &mut impl Site,
 ) -> Result<Ended, Fail> {
     let workers = Vec::with_capacity(rt.alloc(), 2)?;
     let (office, passes) = office_of(rt)?;
