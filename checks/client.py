@@ -3,6 +3,7 @@
 import os
 import re
 import select
+import shutil
 import socket
 import subprocess
 import sys
@@ -13,7 +14,7 @@ import time
 from daemon import PATIENCE, Daemon
 
 LICENCE = "FEATURE edit acme 2.0 permanent 2 SIGN=00AB\nFEATURE draft acme 1.0 permanent 5 SIGN=00AB\n"
-OPTIONS = "RESERVE 1 draft USER ann\n"
+OPTIONS = "RESERVE 1 draft USER ann\nEXCLUDE draft USER eve\n"
 WHO = ["--user", "ann", "--host", "h1", "--display", "d1", "--project", "p1"]
 
 faults = []
@@ -24,9 +25,9 @@ def same(what, found, wanted):
         faults.append(f"{what}: {found!r} and not {wanted!r}")
 
 
-def client(program, path, *words, who=WHO, stdin=subprocess.DEVNULL):
+def client(program, path, *words, who=WHO, stdin=subprocess.DEVNULL, **more):
     """What a run of the client ends with: its status, and what it writes."""
-    ran = subprocess.run([program, *who, path, *words], stdin=stdin, capture_output=True, text=True, timeout=60)
+    ran = subprocess.run([program, *who, path, *words], stdin=stdin, capture_output=True, text=True, timeout=60, **more)
     return ran.returncode, ran.stdout, ran.stderr
 
 
@@ -35,10 +36,43 @@ def asks(program, daemon):
     same("ask of another feature", client(program, daemon.path, "ask", "CHECKOUT none 1.0"), (0, "UNKNOWN\n", ""))
     same("ask no request", client(program, daemon.path, "ask", "JUMP"), (2, "", "no request: unknown word\n"))
     same("ask two lines", client(program, daemon.path, "ask", "LOOK edit\nQUIT"), (2, "", "no request: bad byte\n"))
-    named = client(program, daemon.path, "ask", "LOOK edit", who=["--user", "a b"])
-    same("ask as nobody's name", named, (2, "", "no request: word count\n"))
-    same("no command", client(program, daemon.path, "jump"), (2, "", "usage\n"))
-    same("too few words", client(program, daemon.path, "hold", "edit"), (2, "", "usage\n"))
+
+
+def refuses(program):
+    """Words that will not do are told before anybody is connected to: there is no daemon here."""
+    nobody = "/nowhere/socket"
+    blank = "no request: the user has a blank or another byte that isn't from 33 to 126: see --user and USER\n"
+    for what, words, who, wanted in (
+        ("no command", ["jump"], WHO, "usage\n"),
+        ("too few words", ["hold", "edit"], WHO, "usage\n"),
+        ("no seconds", ["hold", "edit", "1.0"], ["--every", "0"], "usage\n"),
+        ("an empty user", ["ask", "LOOK edit"], ["--user", ""], "no request: the user is empty: see --user and USER\n"),
+        ("a user of two words", ["ask", "LOOK edit"], ["--user", "a b"], blank),
+        ("a long project", ["status", "edit"], ["--project", "p" * 65], "no request: the project has more than 64 bytes: see --project and LM_PROJECT\n"),
+        ("a version for a feature", ["hold", "edit 1.0", ""], WHO, "no request: word count\n"),
+        ("a set that is no number", ["reread", "one"], WHO, "no request: bad number\n"),
+        ("1,024 bytes", ["ask", "LOOK " + "e" * 1019], WHO, "no request: bad name\n"),
+        ("1,025 bytes", ["ask", "LOOK " + "e" * 1020], WHO, "no request: more than 1,024 bytes\n"),
+    ):
+        same(what, client(program, nobody, *words, who=who), (2, "", wanted))
+    same("no daemon", client(program, nobody, "shutdown"), (3, "", "no daemon at the socket\n"))
+    display = client(program, nobody, "ask", "LOOK edit", who=["--host", "h1"], env={"USER": "ann", "DISPLAY": ""})
+    same("an empty DISPLAY", display, (2, "", "no request: the display is empty: see --display and DISPLAY\n"))
+
+
+def forbidden(program):
+    """A socket in a folder that another user may not enter. Root may enter every folder, so there the client runs as nobody."""
+    with tempfile.TemporaryDirectory() as open_folder, tempfile.TemporaryDirectory() as folder:
+        os.chmod(open_folder, 0o755)
+        copy = shutil.copy(program, open_folder)
+        nobody = {"user": 65534, "group": 65534} if os.geteuid() == 0 else {}
+        with socket.socket(socket.AF_UNIX, socket.SOCK_STREAM) as door:
+            path = os.path.join(folder, "socket")
+            door.bind(path)
+            door.listen(1)
+            os.chmod(folder, 0o700 if nobody else 0)
+            same("a forbidden socket", client(copy, path, "ask", "QUIT", **nobody), (10, "", "permission denied at the socket\n"))
+            os.chmod(folder, 0o700)
 
 
 def shows(program, daemon):
@@ -77,6 +111,53 @@ def holds(program, daemon):
         cy.ask("CHECKOUT edit 1.0")
         status, out, err = client(program, daemon.path, "hold", "edit", "1.0")
         same("hold without a seat", (status, out, re.sub(r"#\d+", "#n", err)), (1, "", "CHECKOUT edit 1.0\nNOSEAT TAKEN 2 OF 2 #n\n"))
+
+
+def told(lines):
+    """The next line, with its place left open."""
+    return re.sub(r"#\d+", "#n", lines.readline())
+
+
+def waits(program, daemon):
+    """Of two seats both are had: who waits is granted one once it is given back; who ends its input before gives its place back."""
+    words = [program, *WHO, "--wait", "--every", "1", daemon.path, "hold", "edit", "1.0"]
+    pipes = {"stdin": subprocess.PIPE, "stdout": subprocess.PIPE, "stderr": subprocess.PIPE, "text": True}
+    with daemon.session("bob h2 d2 p2") as bob, daemon.session("cy h3 d3 p3") as cy:
+        bob.ask("CHECKOUT edit 1.0")
+        cy.ask("CHECKOUT edit 1.0")
+        with subprocess.Popen(words, **pipes) as held, subprocess.Popen(words, **pipes) as left:
+            places = {told(held.stdout), told(left.stdout)}
+            same("hold --wait: places", places, {"QUEUED 1 #n\n", "QUEUED 2 #n\n"})
+            left.stdin.close()
+            same("hold --wait: left", (told(left.stdout), left.wait(30), left.stderr.read()), ("UNQUEUED #n\n", 0, ""))
+            bob.ask("CHECKIN edit")
+            same("hold --wait: granted", told(held.stdout), "GRANTED SEAT 0 OPEN #n\n")
+            time.sleep(3)
+            same("hold --wait: a seat", cy.ask("STATUS edit").rpartition(" #")[0], "COUNTS HELD 2 LINGERING 0 OPEN 2 OF 2 OWN 1")
+            held.stdin.close()
+            same("hold --wait: given back", (told(held.stdout), held.wait(30), held.stderr.read()), ("RETURNED #n\n", 0, ""))
+    free = [program, *WHO, "--wait", daemon.path, "hold", "edit", "1.0"]
+    ran = subprocess.run(free, stdin=subprocess.DEVNULL, capture_output=True, text=True, timeout=60)
+    same("hold --wait where a seat is free", (ran.returncode, re.sub(r"#\d+", "#n", ran.stdout)), (0, "GRANTED SEAT 0 OPEN #n\nRETURNED #n\n"))
+    denied = [program, "--user", "eve", "--wait", daemon.path, "hold", "draft", "1.0"]
+    ran = subprocess.run(denied, stdin=subprocess.DEVNULL, capture_output=True, text=True, timeout=60)
+    same("hold --wait where a line denies it", (ran.returncode, ran.stdout), (1, ""))
+    same("hold --wait: the line", re.sub(r"#\d+", "#n", ran.stderr), "QUEUE draft 1.0\nDENIED LINE 2 #n\n")
+
+
+def names_host(program):
+    """The host that a client names: HOSTNAME, and else the system's."""
+
+    def hears(line):
+        def hear(link):
+            same("the HELLO", link.recv(4096).decode(), line)
+
+        return hear
+
+    who = ["--user", "ann", "--display", "d1", "--project", "p1"]
+    closed = (4, "", "the daemon closed the link\n")
+    for name, environment in (("keel", {"HOSTNAME": "keel"}), (socket.gethostname(), {})):
+        meets(f"host {name}", program, hears(f"HELLO ann {name} d1 p1\n"), ("ask", "LOOK edit"), closed, who=who, env=environment)
 
 
 def ends(program, daemon):
@@ -164,11 +245,14 @@ def main():
         if not os.access(built, os.X_OK):
             sys.exit(f"client: {built} isn't built: rt ci builds it")
     same("version", client(program, "--version", who=[]), (0, "licence_client 1\n", ""))
+    refuses(program)
+    forbidden(program)
     with Daemon(daemon_program, LICENCE, OPTIONS, sessions=6, more=["EXCLUDE edit USER eve\n"]) as daemon:
         same("up", daemon.is_up(), True)
         asks(program, daemon)
         shows(program, daemon)
         holds(program, daemon)
+        waits(program, daemon)
         full_device(program, daemon)
         ends(program, daemon)
     answers(program, [b""], (4, "", "the daemon closed the link\n"))
@@ -176,6 +260,7 @@ def main():
     answers(program, [b"x" * 2000], (9, "", "not a reply\n"))
     answers(program, [b"GREETED\n"], (1, "", "HELLO ann h1 d1 p1\nGREETED\n"))
     answers(program, [b"WELCOME 0\n", b"GLANCE many\n"], (9, "", "no numbers: GLANCE many\n"), words=("status", "edit"))
+    names_host(program)
     lost_links(program)
     for fault in faults:
         print(f"client: {fault}")

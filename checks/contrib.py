@@ -39,6 +39,7 @@ COMPLETIONS = (
     ("licence_client --user ann socket s", "status shutdown"),
     ("licence_client --user = ann socket s", "status shutdown"),
     ("licence_client --user s", ""),
+    ("licence_client --wait socket s", "status shutdown"),
     ("licence_client socket status e", ""),
 )
 

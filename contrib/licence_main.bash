@@ -31,8 +31,8 @@ _licence_options() {
     fi
 }
 
-# The options of licence_client, and behind the socket its commands; behind a command come no files. bash takes --user=ann
-# for three words.
+# The options of licence_client, and behind the socket its commands; behind a command come no files. Each option but --wait
+# has a value, and bash takes --user=ann for three words.
 _licence_client() {
     local at word count=0 named=false
     _licence_options "$1"
@@ -43,7 +43,7 @@ _licence_client() {
         elif $named; then
             named=false
         elif [[ $word == --* ]]; then
-            named=true
+            [[ $word == --wait ]] || named=true
         else
             ((count += 1))
         fi

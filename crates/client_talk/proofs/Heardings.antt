@@ -1,13 +1,11 @@
 -- How a reply is heard, read by read.
-use Rattle.std.proofs.Common.{◌≡◌, ◌∙◌, ℕ, ◌+◌, ◌-◌, ◌<◌, ◌≤◌, inl, inr, Bool, true, false, cond, ◌++◌, ◌∷◌, [], List, length, take, drop, ap, ap₂, refl, sym, subst, arith, Result, Ok, Err, append_assoc, append-nil, length-drop, length-take-le}
+use Rattle.std.proofs.Common.{◌≡◌, ◌∙◌, ℕ, ◌+◌, ◌<◌, ◌≤◌, false, cond, ◌++◌, ◌∷◌, [], List, length, take, drop, ap, ap₂, refl, sym, subst, arith, Ok, Err, append_assoc, append-nil, length-drop, length-take-le}
 use Rattle.std.proofs.lemmas.List.{nil_from_length}
 use Rattle.std.proofs.lemmas.List.Sums.{sum_by-append}
 use Rattle.std.proofs.lemmas.List.Concat.{flat_map-append}
-use Rattle.std.specs.Prelude.{flat_map}
-use Rattle.line_protocol.specs.Streams.{Begins, Held, IsFlat, IsOpen, IsOverlong, waiting}
-use Rattle.session_outside.specs.Talk.{Event, Follows, Heard, Silence, Ended, ReadFault}
+use Rattle.line_protocol.specs.Streams.{Begins, Held, IsOpen, waiting}
+use Rattle.session_outside.specs.Talk.{Event, Follows}
 use Rattle.client_talk.specs.Hearing.{HearsBy, HearsReply, IsGarbled, IsHearing, Replies, Shows, StepSays, heard_in, heard_of, is_silence, silences_in, written_in, written_of}
-use Rattle.client_talk.specs.declared.hearing.Step.{Step}
 use Rattle.client_talk.specs.declared.hearing.Step.TheVariants as step
 use Rattle.client_talk.specs.declared.lost.Lost.{Lost}
 use Rattle.client_talk.specs.declared.lost.Lost.TheVariants.{Fault, Closed, Silent, Garbled, Unasked}

@@ -1,3 +1,6 @@
 pub mod Heardings
+pub mod Judgings
+pub mod Numbered
 pub mod Showings
+pub mod Standings
 pub mod Talkings

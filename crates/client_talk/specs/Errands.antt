@@ -1,17 +1,15 @@
 -- What comes of an errand.
-use Rattle.std.specs.Prelude.{◌≡◌, ℕ, ◌<◌, ◌≤◌, Bool, true, List, [], ◌∷◌, ◌++◌, map, length, replicate, All, Option, Vec, Result, Ok, Err}
+use Rattle.std.specs.Prelude.{◌≡◌, ℕ, true, List, [], ◌∷◌, map, Vec, Result, Ok, Err}
 use Rattle.std.specs.declared.alloc.Global.{Global}
 use Rattle.counter.specs.declared.glance.Glance.{Glance}
 use Rattle.line_protocol.specs.Replies.{glance_text}
 use Rattle.line_protocol.specs.Streams.{Held}
-use Rattle.outside.specs.Told.{told_with}
 use Rattle.session_outside.specs.Talk.{Event}
 use Rattle.client_talk.specs.Exchange.{Asks}
 use Rattle.client_talk.specs.Replies.{accepts}
 use Rattle.client_talk.specs.Table.{Row, table_text}
-use Rattle.client_talk.specs.Talks.{Halts, Spoke, Stopped, beat_line, checkin_line, checkout_line, glance_line, hello_line}
+use Rattle.client_talk.specs.Talks.{Halts, Spoke, Stopped, glance_line}
 use Rattle.client_talk.specs.declared.cause.Cause.{Cause}
-use Rattle.client_talk.specs.declared.client.Client.{Client}
 use Rattle.client_talk.specs.declared.want.Want.{Want}
 use Rattle.client_talk.specs.declared.want.Want.TheVariants.{Welcome, Seat, Beaten, Returned}
 

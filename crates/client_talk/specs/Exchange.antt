@@ -1,5 +1,5 @@
 -- One request and its reply.
-use Rattle.std.specs.Prelude.{◌≡◌, ℕ, Bool, true, false, List, [], ◌∷◌, ◌++◌, take, Result, Ok, Err}
+use Rattle.std.specs.Prelude.{◌≡◌, ℕ, true, List, ◌∷◌, take, Result, Ok, Err}
 use Rattle.line_protocol.specs.Streams.{Held}
 use Rattle.session_outside.specs.Talk.{Event, Follows, Wrote}
 use Rattle.client_talk.specs.Hearing.{Replies, Shows, written_of}

@@ -1,6 +1,6 @@
 -- How a client hears the reply to one line.
-use Rattle.std.specs.Prelude.{◌≡◌, ℕ, ◌<◌, ◌≤◌, Bool, true, false, ◌⊎◌, List, [], ◌∷◌, ◌++◌, flat_map, length, cond, sum_by, Result, Ok, Err}
-use Rattle.line_protocol.specs.Streams.{Begins, Held, IsFlat, IsOpen, IsOverlong, waiting}
+use Rattle.std.specs.Prelude.{◌≡◌, ℕ, ◌<◌, Bool, true, false, ◌⊎◌, List, [], ◌∷◌, ◌++◌, flat_map, length, cond, sum_by, Result, Ok, Err}
+use Rattle.line_protocol.specs.Streams.{Begins, Held, IsOpen, IsOverlong, waiting}
 use Rattle.session_outside.specs.Talk.{Event, Follows, Heard, Silence, Ended, ReadFault, Wrote, WriteFault}
 use Rattle.client_talk.specs.declared.lost.Lost.{Lost}
 use Rattle.client_talk.specs.declared.lost.Lost.TheVariants.{Fault, Closed, Silent, Garbled, Unasked}

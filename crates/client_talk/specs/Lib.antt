@@ -1,9 +1,15 @@
 pub mod Errands
 pub mod Exchange
 pub mod Hearing
+pub mod Holding
+pub mod Judging
 pub mod Keeping
+pub mod Numbers
+pub mod Printing
 pub mod Replies
 pub mod Requests
 pub mod Running
+pub mod Standing
+pub mod Stays
 pub mod Table
 pub mod Talks

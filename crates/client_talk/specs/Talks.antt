@@ -1,25 +1,19 @@
 -- What is said in a talk of requests and replies.
-use Rattle.std.specs.Prelude.{◌≡◌, ◌⊎◌, ℕ, Bool, true, false, List, [], ◌∷◌, ◌++◌, flat_map, length, take, codes, is_ok, Result, Ok, Err, string_bytes}
+use Rattle.std.specs.Prelude.{◌≡◌, ℕ, false, List, [], ◌∷◌, ◌++◌, take, codes, Err, string_bytes}
 use Rattle.session_outside.specs.Talk.{Event, Follows, Wrote}
-use Rattle.client_talk.specs.Hearing.{Replies, Shows, heard_of, written_of}
+use Rattle.client_talk.specs.Hearing.{Replies, Shows, written_of}
+use Rattle.client_talk.specs.Numbers.{IsNoGlance}
 use Rattle.client_talk.specs.Replies.{accepts}
+use Rattle.client_talk.specs.Requests.{line_judged}
 use Rattle.client_talk.specs.declared.cause.Cause.{Cause}
-use Rattle.client_talk.specs.declared.cause.Cause.TheVariants.{Lost, Refused, NoNumbers, NoRequest, NoMemory, WriteFault}
+use Rattle.client_talk.specs.declared.cause.Cause.TheVariants.{Lost, Refused, NoNumbers, NoRequest, TooLong, BadWord, NoMemory, WriteFault}
 use Rattle.client_talk.specs.declared.cause.Refusal.{Refusal}
 use Rattle.client_talk.specs.declared.client.Client.{Client}
-use Rattle.line_protocol.specs.Requests.{request_of}
 
--- nothing was written in these events, and nothing was heard
-pub record IsStill (events : List Event) : Type 0 where
-  pub unwritten : written_of events ≡ []
-  pub unheard : heard_of events ≡ []
-
--- a line was written, and the reply to it was heard; before that nothing was said
+-- a line was written, and then the reply to it was heard
 pub record Answered (line reply : List ℕ) (events : List Event) : Type 0 where
-  pub idle : List Event
   pub hearing : List Event
-  pub order : events ≡ idle ++ Wrote (line ++ 10 ∷ []) ∷ hearing
-  pub still : IsStill idle
+  pub order : events ≡ Wrote (line ++ 10 ∷ []) ∷ hearing
   pub replied : Replies hearing reply
 
 -- these lines were written, each behind the reply to the one before it, and these are their replies
@@ -40,10 +34,12 @@ pub record IsRefusal (line : List ℕ) (r : Refusal) (events : List Event) : Typ
 abbrev pub Why : List ℕ → Cause → List Event → Type 0
 Why line (Lost lost) events = Shows lost events
 Why line (Refused r) events = IsRefusal line r events
-Why line (NoNumbers reply) events = Answered line reply.bytes events
-Why line (NoRequest fault) events = request_of line ≡ Err fault
+Why line (NoNumbers reply) events = Answered line reply.bytes events × IsNoGlance reply.bytes
+Why line (NoRequest fault) events = line_judged line ≡ Err (NoRequest fault)
+Why line TooLong events = line_judged line ≡ Err TooLong
+Why line (BadWord bad) events = ⊥
 Why line NoMemory events = Unit {0}
-Why line WriteFault events = Unit {0}
+Why line WriteFault events = ⊥
 
 -- a talk stopped at a line for this cause; at most a front of the line was written
 pub record Halts {X : Type 0} (tells : X → List Event → Type 0) (old new : X) (line : List ℕ) (cause : Cause) : Type 0 where
@@ -51,10 +47,6 @@ pub record Halts {X : Type 0} (tells : X → List Event → Type 0) (old new : X
   pub told : Follows tells old new events
   pub front : (k : ℕ) × (written_of events ≡ take k (line ++ 10 ∷ []))
   pub why : Why line cause events
-
--- nothing was said
-abbrev pub Idles : {X : Type 0} → (X → List Event → Type 0) → X → X → Type 0
-Idles {X} tells old new = (events : List Event) × Follows tells old new events × IsStill events
 
 -- the events of a talk of these lines, all of which were answered
 abbrev pub Spoke : {X : Type 0} → (X → List Event → Type 0) → X → X → List (List ℕ) → List (List ℕ) → Type 0
@@ -80,6 +72,9 @@ glance_line feature = codes "GLANCE " ++ feature
 
 abbrev pub checkout_line : List ℕ → List ℕ → List ℕ
 checkout_line feature version = codes "CHECKOUT " ++ feature ++ codes " " ++ version
+
+abbrev pub queue_line : List ℕ → List ℕ → List ℕ
+queue_line feature version = codes "QUEUE " ++ feature ++ codes " " ++ version
 
 abbrev pub beat_line : List ℕ → List ℕ
 beat_line feature = codes "BEAT " ++ feature

@@ -1,4 +1,5 @@
 //! Why an errand isn't done.
+use crate::client::BadWord;
 use crate::lost::Lost;
 use crate::request::Request;
 use line_protocol::{Feeder, WireFault};
@@ -24,6 +25,10 @@ pub enum Cause {
     NoNumbers(Feeder),
     /// The words make no request of the protocol, for this fault.
     NoRequest(WireFault),
+    /// The words make a line of more than 1,024 bytes, which the daemon would not read.
+    TooLong,
+    /// This word that says who asks is no name.
+    BadWord(BadWord),
     /// There was too little memory.
     NoMemory,
     /// Standard output didn't take all of it.

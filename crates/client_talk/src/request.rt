@@ -1,14 +1,18 @@
 //! Requests, each with the replies that it wants.
 ghost use Rattle.std.specs.Prelude.{◌≡◌, ◌∷◌, ◌++◌, [], string_bytes};
-ghost use Rattle.line_protocol.specs.Requests.{request_of};
-ghost use Rattle.client_talk.specs.Talks.{beat_line, checkin_line, checkout_line, glance_line, hello_line, reread_line};
+ghost use Rattle.client_talk.specs.Holding.{seat_line, seat_want};
+ghost use Rattle.client_talk.specs.Talks.{beat_line, checkin_line, checkout_line, glance_line, hello_line, queue_line, reread_line};
 ghost use Rattle.client_talk.specs.Requests.{Makes};
 
 use crate::cause::Cause;
 use crate::client::Client;
+use crate::hold::Hold;
 use crate::want::Want;
 use line_protocol::read_request;
 use std::alloc::Global;
+
+/// The most bytes that a line of the protocol has, without its LF.
+const LINE_LIMIT: usize = 1024;
 
 /// A request.
 #[derive(Drop)]
@@ -20,11 +24,14 @@ pub struct Request {
 }
 
 impl Request {
-    /// The request of these words. `NoRequest` comes exactly where the words are no request of the protocol, with their first
-    /// fault; `NoMemory` where memory ran out.
+    /// The request of these words. `TooLong` comes exactly where they have more than 1,024 bytes, `NoRequest` exactly where they
+    /// have no more and are no request of the protocol, with their first fault; `NoMemory` where memory ran out.
     pub fn make(alloc: Global, words: &str, want: Want) -> Result<Request, Cause>
         ensures { Makes words.now want result }
     {
+        if words.len() > LINE_LIMIT {
+            return Err(Cause::TooLong);
+        }
         if let Err(fault) = read_request(words.as_bytes()) {
             return Err(Cause::NoRequest(fault));
         }
@@ -62,20 +69,38 @@ impl Request {
         Request::make(alloc, words.as_str(), Want::Seat)
     }
 
-    /// The request to be heard.
-    pub fn beat(alloc: Global, feature: &str) -> Result<Request, Cause>
-        ensures { Makes (beat_line feature.now) Want.Beaten result }
+    /// The request for a seat, or else for a place in the queue.
+    pub fn queue(alloc: Global, feature: &str, version: &str) -> Result<Request, Cause>
+        ensures { Makes (queue_line feature.now version.now) Want.Place result }
     {
-        let words = format!(in alloc; "BEAT {feature}")?;
-        Request::make(alloc, words.as_str(), Want::Beaten)
+        let words = format!(in alloc; "QUEUE {feature} {version}")?;
+        Request::make(alloc, words.as_str(), Want::Place)
     }
 
-    /// The request to give a seat back.
-    pub fn checkin(alloc: Global, feature: &str) -> Result<Request, Cause>
-        ensures { Makes (checkin_line feature.now) Want.Returned result }
+    /// The request by which a seat that is to be held is asked for.
+    pub fn seat(alloc: Global, hold: &Hold<'_>) -> Result<Request, Cause>
+        ensures { Makes (seat_line hold.now) (seat_want hold.now) result }
+    {
+        match hold.pace.waiting {
+            Some(_) => Request::queue(alloc, hold.feature, hold.version),
+            None => Request::checkout(alloc, hold.feature, hold.version),
+        }
+    }
+
+    /// The request to be heard, which wants these replies.
+    pub fn beat(alloc: Global, feature: &str, want: Want) -> Result<Request, Cause>
+        ensures { Makes (beat_line feature.now) want result }
+    {
+        let words = format!(in alloc; "BEAT {feature}")?;
+        Request::make(alloc, words.as_str(), want)
+    }
+
+    /// The request to give a seat, or a place in the queue, back, which wants these replies.
+    pub fn checkin(alloc: Global, feature: &str, want: Want) -> Result<Request, Cause>
+        ensures { Makes (checkin_line feature.now) want result }
     {
         let words = format!(in alloc; "CHECKIN {feature}")?;
-        Request::make(alloc, words.as_str(), Want::Returned)
+        Request::make(alloc, words.as_str(), want)
     }
 
     /// The request that the rule set of a number holds.

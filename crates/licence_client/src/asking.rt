@@ -1,9 +1,9 @@
 //! The words of the program, read by `clap`.
 use crate::ending::End;
-use crate::errands::seconds_of;
+use crate::errands::pace_of;
 use clap::error::ErrorKind;
 use clap::{Arg, ArgAction, ArgMatches, Command, Error};
-use client_talk::{Cause, Client};
+use client_talk::{Cause, Client, Pace};
 use std::alloc::{AllocError, Global};
 
 /// Who a client is where the words don't say: what the environment tells, if it does.
@@ -11,7 +11,7 @@ use std::alloc::{AllocError, Global};
 pub struct Defaults {
     /// The user: USER.
     pub user: Option<String>,
-    /// The host: HOSTNAME.
+    /// The host: HOSTNAME, or the name that the system has.
     pub host: Option<String>,
     /// The display: DISPLAY.
     pub display: Option<String>,
@@ -28,8 +28,8 @@ pub struct Said<'a> {
     pub command: &'a str,
     /// The words behind it.
     pub words: Vec<&'a str>,
-    /// The seconds between BEATs.
-    pub every: u64,
+    /// How often a BEAT is asked.
+    pub pace: Pace,
     /// Who asks.
     pub client: Client<'a>,
 }
@@ -62,7 +62,7 @@ pub fn client_command<'a>(alloc: Global) -> Result<Command<'a>, AllocError> {
         .about("Asks the licence daemon at a socket")
         .no_binary_name(true)
         .after_help(
-            "Commands:\n  ask REQUEST           ask one request, as \"CHECKOUT edit 1.0\", and print the reply\n  status FEATURE..      print a table of the seats of each feature\n  hold FEATURE VERSION  take a seat and keep it until standard input ends\n  reread NUMBER         let the rule set of this number hold\n  shutdown              end all sessions",
+            "Commands:\n  ask REQUEST           ask one request, as \"CHECKOUT edit 1.0\", and print the reply\n  status FEATURE..      print a table of the seats of each feature\n  hold FEATURE VERSION  take a seat and keep it until standard input ends;\n                        with --wait, wait for one in the queue\n  reread NUMBER         let the rule set of this number hold\n  shutdown              end all sessions",
         )
         .arg(word_arg(alloc, "SOCKET", "The path of the daemon's socket"))?
         .arg(word_arg(alloc, "COMMAND", "ask, status, hold, reread or shutdown"))?
@@ -72,7 +72,7 @@ pub fn client_command<'a>(alloc: Global) -> Result<Command<'a>, AllocError> {
             alloc,
             "host",
             "NAME",
-            "On which host; else HOSTNAME, or localhost",
+            "On which host; else HOSTNAME, or the system's name, or localhost",
         ))?
         .arg(option_arg(
             alloc,
@@ -90,8 +90,14 @@ pub fn client_command<'a>(alloc: Global) -> Result<Command<'a>, AllocError> {
             alloc,
             "every",
             "SECONDS",
-            "How many seconds hold waits between BEATs, 1 to 86400; else 300",
-        ))
+            "How many seconds hold lets pass between BEATs, 1 to 86400; else 300 with a seat and 10 without",
+        ))?
+        .arg(
+            Arg::new(alloc, "wait")
+                .long("wait")
+                .action(ArgAction::SetTrue)
+                .help("hold waits in the queue where no seat is free"),
+        )
 }
 
 /// The value of an option, or its default, or else this word.
@@ -140,7 +146,7 @@ pub fn said_in<'a>(
     let Some(command) = matches.get_str("COMMAND") else {
         return Err(End::Usage);
     };
-    let Some(every) = seconds_of(matches.get_str("every")) else {
+    let Some(pace) = pace_of(matches.get_str("every"), matches.get_flag("wait")) else {
         return Err(End::Usage);
     };
     match words_in(alloc, matches) {
@@ -148,7 +154,7 @@ pub fn said_in<'a>(
             socket,
             command,
             words,
-            every,
+            pace,
             client: client_in(matches, defaults),
         }),
         None => Err(End::Stopped(Cause::NoMemory)),

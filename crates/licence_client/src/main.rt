@@ -4,14 +4,16 @@
 mod asking;
 mod ending;
 mod errands;
+mod host;
 mod input;
 
 use crate::asking::{Defaults, Said, client_command, refused, said_in};
 use crate::ending::{End, end_line};
 use crate::errands::errand_of;
+use crate::host::system_host;
 use crate::input::bell_at_end;
 use clap::{ArgMatches, Error};
-use client_talk::{Cause, Errand, run};
+use client_talk::{Cause, Errand, judge, run};
 use outside::{RealSink, Sink};
 use session_outside::{Clock, StillBell};
 use std::alloc::Global;
@@ -20,7 +22,7 @@ use std::io::Read;
 use std::net::Net;
 use std::os::unix::net::UnixStream;
 use std::process::ExitCode;
-use std::rt::Env;
+use std::rt::{Env, Files};
 use std::thread::Threads;
 use unix_site::{SystemClock, UnixLink};
 
@@ -42,15 +44,16 @@ fn perform<R: Net + Threads, K: Clock, I: Read + Send + Drop + 'static, O: Sink>
     input: I,
     out: &mut O,
 ) -> End {
-    let Ok(stream) = UnixStream::connect(rt, said.socket) else {
-        return End::NoDaemon;
+    let stream = match UnixStream::connect(rt, said.socket) {
+        Ok(stream) => stream,
+        Err(error) => return End::unconnected(error.kind()),
     };
     let Ok(mut link) = UnixLink::over(stream) else {
         return End::NoDaemon;
     };
     let link = &mut link;
     let client = &said.client;
-    if matches!(errand, Errand::Hold(_, _, _)) {
+    if matches!(errand, Errand::Hold(_)) {
         match bell_at_end(rt, alloc, input) {
             Some(mut bell) => end_of(run(alloc, errand, client, link, clock, &mut bell, out)),
             None => End::Stopped(Cause::NoMemory),
@@ -84,17 +87,25 @@ fn words_of<R: Env + AllocGlobal>(rt: &R) -> Result<Vec<String>, End> {
     Ok(words)
 }
 
+/// The name of this host, by HOSTNAME or else by the system.
+fn host_name<R: Env + Files + AllocGlobal>(rt: &R) -> Option<String> {
+    match env::var(rt, "HOSTNAME") {
+        Ok(host) => Some(host),
+        Err(_) => system_host(rt, rt.alloc()),
+    }
+}
+
 /// What the environment says of who asks.
-fn defaults<R: Env + AllocGlobal>(rt: &R) -> Defaults {
+fn defaults<R: Env + Files + AllocGlobal>(rt: &R) -> Defaults {
     Defaults {
         user: env::var(rt, "USER").ok(),
-        host: env::var(rt, "HOSTNAME").ok(),
+        host: host_name(rt),
         display: env::var(rt, "DISPLAY").ok(),
         project: env::var(rt, "LM_PROJECT").ok(),
     }
 }
 
-/// Does what words ask for that clap takes.
+/// Does what words ask for that clap takes. Words that won't do are told before anybody is connected to.
 fn follow<R: Net + Threads, K: Clock, I: Read + Send + Drop + 'static, O: Sink>(
     rt: &R,
     alloc: Global,
@@ -103,9 +114,12 @@ fn follow<R: Net + Threads, K: Clock, I: Read + Send + Drop + 'static, O: Sink>(
     input: I,
     out: &mut O,
 ) -> End {
-    match errand_of(said.command, said.words.as_slice(), said.every) {
-        Some(errand) => perform(rt, alloc, said, &errand, clock, input, out),
-        None => End::Usage,
+    let Some(errand) = errand_of(said.command, said.words.as_slice(), said.pace) else {
+        return End::Usage;
+    };
+    match judge(alloc, &errand, &said.client) {
+        Ok(()) => perform(rt, alloc, said, &errand, clock, input, out),
+        Err(cause) => End::Stopped(cause),
     }
 }
 
@@ -140,12 +154,12 @@ fn obey<'a, R: Net + Threads, K: Clock, I: Read + Send + Drop + 'static, O: Sink
 }
 
 /// Does what the words of the command line ask for.
-fn client<R: Env + Net + Threads + AllocGlobal, K: Clock, I: Read + Send + Drop + 'static, O: Sink>(
-    rt: &R,
-    clock: &mut K,
-    input: I,
-    out: &mut O,
-) -> End {
+fn client<
+    R: Env + Files + Net + Threads + AllocGlobal,
+    K: Clock,
+    I: Read + Send + Drop + 'static,
+    O: Sink,
+>(rt: &R, clock: &mut K, input: I, out: &mut O) -> End {
     match words_of(rt) {
         Ok(words) => {
             let defaults = defaults(rt);

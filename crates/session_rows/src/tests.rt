@@ -1,4 +1,5 @@
 //! Whole sessions: what is written, how they end, and which entries they make.
+mod client;
 mod lines;
 mod site;
 

@@ -1,4 +1,4 @@
-use Rattle.std.proofs.Common.{map, take, ◌∷◌, [], ◌+◌, get_or, Bor, List, ℕ}
+use Rattle.std.proofs.Common.{map, take, [], ◌+◌, get_or, Bor, List, ℕ}
 use Rattle.client_talk.specs.Talks.{glance_line, hello_line}
 use Rattle.client_talk.specs.declared.cause.Cause.TheVariants.{NoMemory}
 use Rattle.client_talk.specs.declared.want.Want.TheVariants.{Numbers, Welcome}

@@ -1,5 +1,5 @@
-use Rattle.std.proofs.Common.{arith, sym, rules}
-use Rattle.client_talk.proofs.Heardings.{hears_more, hears_none, hears_nothing, hears_quiet, hears_reply, hears_silence}
+use Rattle.std.proofs.Common.{arith}
+use Rattle.client_talk.proofs.Heardings.{hears_more, hears_none, hears_quiet, hears_reply}
 use Rattle.client_talk.proofs.hearing.hear.Goals as goal
 
 pub returns-in-Ok-Reply : goal.returns-in-Ok-Reply

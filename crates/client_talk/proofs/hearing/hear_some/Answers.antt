@@ -1,4 +1,4 @@
-use Rattle.std.proofs.Common.{take, drop, refl, subst, inl, inr, sym, ◌∙◌, true≢false, ◌++◌, [], arith, length-take-le}
+use Rattle.std.proofs.Common.{take, drop, refl, subst, inl, inr, sym, ◌∙◌, true≢false, ◌++◌, arith, length-take-le}
 use Rattle.line_protocol.specs.Streams.{Begins, waiting}
 use Rattle.session_outside.specs.Talk.{Heard}
 use Rattle.client_talk.proofs.Heardings.{part_piece, whole_piece}

@@ -1,9 +1,13 @@
-use Rattle.client_talk.specs.Talks.{checkin_line}
-use Rattle.client_talk.specs.declared.want.Want.TheVariants.{Returned}
-use Rattle.client_talk.proofs.Talkings.{kept_given}
+use Rattle.std.proofs.Common.{Ok}
+use Rattle.client_talk.proofs.Standings.{gives_all}
 use Rattle.client_talk.proofs.keeping.keep.Goals as goal
 
 pub returns-in-Ok : goal.returns-in-Ok
-returns-in-Ok g c =
-    kept_given g.L.Link.tells c.args.link.now c.beat.new.link c.ask_made.new.link c.args.feature.now c.ask_made.result c.in-Ok.ensures
-    (c.ask_made.ensures (checkin_line c.args.feature.now) Returned c.checkin.ensures)
+returns-in-Ok g c = record {
+  at = c.stay.new.link;
+  came = Ok c.in-Ok.field-0;
+  stays = c.in-Ok.ensures;
+  gives =
+      gives_all g.L.Link.tells g.K.Clock.gave g.B.Bell.answered c.args.link.now c.stay.new.link c.give_back.new.link c.args.clock.now c.stay.new.clock c.args.bell.now c.stay.new.bell c.args.feature.now c.args.every
+      c.in-Ok.field-0 c.give_back.result c.in-Ok.ensures c.give_back.ensures;
+}
