@@ -29,8 +29,9 @@ licence_entries{feature="draw"} 2
 """
 
 COMPLETIONS = (
-    ("licence_main ''", "serve check replay report audit usage trial-threads"),
+    ("licence_main ''", "serve check replay report audit usage trial-replay trial-threads"),
     ("licence_main trial-threads 4", ""),
+    ("licence_main trial-replay 8", ""),
     ("licence_main re", "replay report"),
     ("licence_main serve licence", ""),
     ("licence_main lend", ""),

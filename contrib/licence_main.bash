@@ -5,7 +5,7 @@ _licence_main() {
     local last
     COMPREPLY=()
     if ((COMP_CWORD == 1)); then
-        mapfile -t COMPREPLY < <(compgen -W "serve check replay report audit usage trial-threads" -- "${COMP_WORDS[1]}")
+        mapfile -t COMPREPLY < <(compgen -W "serve check replay report audit usage trial-replay trial-threads" -- "${COMP_WORDS[1]}")
         compopt +o default
         return
     fi
@@ -15,7 +15,7 @@ _licence_main() {
         replay | report | audit | usage) last=7 ;;
         *) last=0 ;;
     esac
-    # The fifth word of serve is a number of sessions, trial-threads has numbers alone, and behind the last file comes nothing.
+    # The fifth word of serve is a number of sessions, the trials have numbers alone, and behind the last file comes nothing.
     if ((COMP_CWORD > last)) || [[ ${COMP_WORDS[1]}:$COMP_CWORD == serve:5 ]]; then
         compopt +o default
     fi

@@ -1,18 +1,10 @@
 -- The words of a `trial-threads`.
-use Rattle.std.specs.Prelude.{ℕ, ◌≤◌, ◌&&◌, nat_eq, nat_le, if◌then◌else◌, List, [], ◌∷◌, map, Option, None, Some, codes, string_bytes}
+use Rattle.std.specs.Prelude.{ℕ, ◌≤◌, nat_eq, if◌then◌else◌, List, [], ◌∷◌, map, Option, None, Some, codes, string_bytes}
 use Rattle.std.specs.Cmp.Lexicographic.{pointwise}
-use Rattle.lic_text.specs.Number.{number_of}
+use Rattle.licence_tool.specs.Numbers.{number_within}
 use Rattle.licence_tool.specs.declared.words.Words.{Words}
 use Rattle.licence_tool.specs.declared.words.Words.TheVariants.{Text, NotText, NoMemory}
 use Rattle.licence_main.specs.declared.trial_words.TrialNumbers.{TrialNumbers}
-
--- a number from the least to the most
-abbrev pub only_within : ℕ → ℕ → Option ℕ → Option ℕ
-only_within least most None = None
-only_within least most (Some n) = if nat_le least n && nat_le n most then Some n else None
-
-abbrev pub number_within : ℕ → ℕ → List ℕ → Option ℕ
-number_within least most word = only_within least most (number_of word)
 
 -- all three, where there are all three
 abbrev pub numbers_of : Option ℕ → Option ℕ → Option ℕ → Option TrialNumbers

@@ -1,8 +1,7 @@
-ghost use Rattle.std.specs.Prelude.{◌≡◌, ◌<◌, ◌≤◌, ◌^◌, IfSome, map, string_bytes};
-ghost use Rattle.licence_main.specs.Trial.{IsWithinTrial, number_within, trial_in, trial_of};
+ghost use Rattle.std.specs.Prelude.{◌≡◌, IfSome, map, string_bytes};
+ghost use Rattle.licence_main.specs.Trial.{IsWithinTrial, trial_in, trial_of};
 
-use lic_text::number;
-use licence_tool::Words;
+use licence_tool::{Words, number_within};
 
 /// What a `trial-threads` asks for.
 #[derive(Clone, Copy, Debug, PartialEq, Eq)]
@@ -13,18 +12,6 @@ pub struct TrialNumbers {
     pub seats: u32,
     /// How often each client takes one and gives it back, 1 to 10,000.
     pub rounds: u32,
-}
-
-/// The number that a word writes, from the least to the most. `None` comes exactly where it writes none of these.
-fn number_within(word: &str, least: u64, most: u64) -> Option<u32>
-    requires { most < 2 ^ 32 }
-    ensures number { result ≡ number_within least most word.now }
-    ensures within { IfSome result (λ n. (least ≤ n) × (n ≤ most)) }
-{
-    match number(word.as_bytes()) {
-        Some(n) if least <= n && n <= most => Some(n as u32),
-        _ => None,
-    }
 }
 
 /// The `trial-threads` that the words are, without the program's name. `None` comes exactly where they aren't `trial-threads`, a

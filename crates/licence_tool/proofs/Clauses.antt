@@ -2,7 +2,7 @@ use Rattle.std.proofs.Common.{◌≡◌, ◌≢◌, ℕ, ◌⊎◌, Bool, true, 
 use Rattle.std.specs.List.{list_all}
 use Rattle.std.proofs.lemmas.Simd.{map-map}
 use Rattle.licence_tool.specs.Asked.{Asks, FailedAt, FailsAt, files_of}
-use Rattle.licence_tool.specs.Command.{Audit, CommandOf, Check, Replay, RunFiles}
+use Rattle.licence_tool.specs.Command.{Audit, CommandOf, Check, Replay, RunFiles, Trial}
 use Rattle.licence_tool.specs.Files.{AreOfCommand, AreOfRun, AreReadings, Bytes, IsReading, are_told, is_run_told, told_by}
 use Rattle.licence_tool.specs.Outcome.{Due, IsRefuted, IsTold, outcome_of}
 use Rattle.licence_tool.specs.Status.{has_own_fault, is_refusal}
@@ -187,6 +187,13 @@ told_is_sure (Replay kind told) are (Check readings) reads = absurd reads
 told_is_sure (Replay kind told) are (Audit report readings) reads = absurd reads
 told_is_sure (Audit report told) are (Check readings) reads = absurd reads
 told_is_sure (Audit report told) are (Replay kind readings) reads = absurd reads
+told_is_sure (Check told) are (Trial events) reads = absurd reads
+told_is_sure (Replay kind told) are (Trial events) reads = absurd reads
+told_is_sure (Audit report told) are (Trial events) reads = absurd reads
+told_is_sure (Trial events) are (Check readings) reads = absurd reads
+told_is_sure (Trial events) are (Replay kind readings) reads = absurd reads
+told_is_sure (Trial events) are (Audit report readings) reads = absurd reads
+told_is_sure (Trial events) are (Trial same) reads = ap (λ (n : ℕ). outcome_of (Trial n)) reads
 told_is_sure (Replay kind told) are (Replay same readings) reads = ap (λ (r : RunFiles Bytes). outcome_of (Replay same r)) (same_run told readings are reads.1) ∙ ap (λ (k : ScriptReport). outcome_of (Replay k told)) reads.0
 told_is_sure (Audit report told) are (Audit same readings) reads = ap (λ (r : RunFiles Bytes). outcome_of (Audit same r)) (same_run told readings are reads.1) ∙ ap (λ (r : LogReport). outcome_of (Audit r told)) reads.0
 
@@ -222,6 +229,13 @@ calm_command FR (Replay kind told) (Check readings) calm reads = reads
 calm_command FR (Replay kind told) (Audit report readings) calm reads = reads
 calm_command FR (Audit report told) (Check readings) calm reads = reads
 calm_command FR (Audit report told) (Replay kind readings) calm reads = reads
+calm_command FR (Check told) (Trial events) calm reads = reads
+calm_command FR (Replay kind told) (Trial events) calm reads = reads
+calm_command FR (Audit report told) (Trial events) calm reads = reads
+calm_command FR (Trial events) (Check readings) calm reads = reads
+calm_command FR (Trial events) (Replay kind readings) calm reads = reads
+calm_command FR (Trial events) (Audit report readings) calm reads = reads
+calm_command FR (Trial events) (Trial same) calm reads = reads
 calm_command FR (Replay kind told) (Replay same readings) calm reads = (reads.0, calm_run FR told readings calm reads.1)
 calm_command FR (Audit report told) (Audit same readings) calm reads = (reads.0, calm_run FR told readings calm reads.1)
 

@@ -6,5 +6,6 @@ pub mod Hearing
 pub mod Replays
 pub mod Runs
 pub mod Sets
+pub mod Trials
 pub mod Verdicts
 pub mod WordLists

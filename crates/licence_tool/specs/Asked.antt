@@ -1,5 +1,5 @@
 use Rattle.std.specs.Prelude.{◌≡◌, ℕ, ◌+◌, ◌≤◌, ◌<◌, List, [], ◌∷◌, ◌++◌, length, take, Option, None, Some, slice_get}
-use Rattle.licence_tool.specs.Command.{Audit, CommandOf, Check, Replay}
+use Rattle.licence_tool.specs.Command.{Audit, CommandOf, Check, Replay, Trial}
 use Rattle.licence_tool.specs.declared.status.Status.{Status}
 use Rattle.licence_tool.specs.declared.status.Status.TheVariants.{Done, Usage, Licence, Options, MoreOptions, Script, ReadFault, WriteFault, NoMemory, FileTooLong, AuditNo}
 
@@ -9,6 +9,7 @@ files_of None = []
 files_of (Some (Check names)) = names.licence ∷ names.options ∷ []
 files_of (Some (Replay kind names)) = names.licence ∷ names.options ∷ names.third ∷ names.more
 files_of (Some (Audit report names)) = names.licence ∷ names.options ∷ names.third ∷ names.more
+files_of (Some (Trial events)) = []
 
 -- a reading failed
 abbrev pub HasFailed : List (List ℕ) → List (List ℕ) → Type 0

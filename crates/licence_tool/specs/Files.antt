@@ -1,6 +1,6 @@
-use Rattle.std.specs.Prelude.{◌≡◌, ℕ, Bool, ◌&&◌, List, [], ◌∷◌, map, Option, None, Some, IfSome, is_some}
+use Rattle.std.specs.Prelude.{◌≡◌, ℕ, Bool, true, ◌&&◌, List, [], ◌∷◌, map, Option, None, Some, IfSome, is_some}
 use Rattle.std.specs.List.{list_all}
-use Rattle.licence_tool.specs.Command.{CheckFiles, Audit, CommandOf, Check, Replay, RunFiles}
+use Rattle.licence_tool.specs.Command.{CheckFiles, Audit, CommandOf, Check, Replay, RunFiles, Trial}
 
 -- the bytes of a file or a sink: what it holds, as far as that is told, or what was read of a file, where its reading didn't fail
 abbrev pub Bytes : Type 0
@@ -15,6 +15,7 @@ abbrev pub told_by : (List ℕ → Bytes) → CommandOf (List ℕ) → CommandOf
 told_by contents (Check names) = Check (record { licence = contents names.licence; options = contents names.options })
 told_by contents (Replay kind names) = Replay kind (run_told contents names)
 told_by contents (Audit report names) = Audit report (run_told contents names)
+told_by contents (Trial events) = Trial events
 
 abbrev pub is_run_told : RunFiles Bytes → Bool
 is_run_told told = is_some told.licence && (is_some told.options && (is_some told.third && list_all is_some told.more))
@@ -24,6 +25,7 @@ abbrev pub are_told : CommandOf Bytes → Bool
 are_told (Check told) = is_some told.licence && is_some told.options
 are_told (Replay kind told) = is_run_told told
 are_told (Audit report told) = is_run_told told
+are_told (Trial events) = true
 
 -- what may be read of a file: just the bytes that it is told to hold, or any where nothing is told; and nothing where its reading failed
 abbrev pub IsReading : Type 0 → Bytes → Bytes → Type 0
@@ -54,9 +56,16 @@ abbrev pub AreOfCommand : Type 0 → CommandOf Bytes → CommandOf Bytes → Typ
 AreOfCommand Failed (Check told) (Check readings) = AreOfCheck Failed told readings
 AreOfCommand Failed (Replay kind told) (Replay same readings) = (same ≡ kind) × AreOfRun Failed told readings
 AreOfCommand Failed (Audit report told) (Audit same readings) = (same ≡ report) × AreOfRun Failed told readings
+AreOfCommand Failed (Trial events) (Trial same) = same ≡ events
 AreOfCommand Failed (Check told) (Replay kind readings) = ⊥
 AreOfCommand Failed (Check told) (Audit report readings) = ⊥
 AreOfCommand Failed (Replay kind told) (Check readings) = ⊥
 AreOfCommand Failed (Replay kind told) (Audit report readings) = ⊥
 AreOfCommand Failed (Audit report told) (Check readings) = ⊥
 AreOfCommand Failed (Audit report told) (Replay kind readings) = ⊥
+AreOfCommand Failed (Check told) (Trial events) = ⊥
+AreOfCommand Failed (Replay kind told) (Trial events) = ⊥
+AreOfCommand Failed (Audit report told) (Trial events) = ⊥
+AreOfCommand Failed (Trial events) (Check readings) = ⊥
+AreOfCommand Failed (Trial events) (Replay kind readings) = ⊥
+AreOfCommand Failed (Trial events) (Audit report readings) = ⊥

@@ -3,6 +3,7 @@ pub mod AuditText
 pub mod Command
 pub mod FaultText
 pub mod Files
+pub mod Numbers
 pub mod Outcome
 pub mod Status
 pub mod Tool

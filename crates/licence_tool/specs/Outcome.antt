@@ -14,9 +14,10 @@ use Rattle.script_text.specs.Script.{script_of}
 use Rattle.script_text.specs.declared.line.ScriptLine.{ScriptLine}
 use Rattle.scripts.specs.Reports.{report_of}
 use Rattle.scripts.specs.Script.{output_of}
+use Rattle.trial_replay.specs.Replayed.{trial_text}
 use Rattle.licence_tool.specs.AuditText.{IsNo, IsYes, yes_text}
 use Rattle.licence_tool.specs.UsageText.{IsUsage, IsUsageText}
-use Rattle.licence_tool.specs.Command.{Audit, CheckFiles, CommandOf, Check, Replay, RunFiles}
+use Rattle.licence_tool.specs.Command.{Audit, CheckFiles, CommandOf, Check, Replay, RunFiles, Trial}
 use Rattle.licence_tool.specs.Files.{Bytes}
 use Rattle.licence_tool.specs.declared.command.LogReport.{LogReport}
 use Rattle.licence_tool.specs.declared.command.LogReport.TheVariants.{Users, Days}
@@ -120,3 +121,4 @@ abbrev pub outcome_of : CommandOf Bytes → Result Due Status
 outcome_of (Check readings) = check_outcome readings
 outcome_of (Replay kind readings) = replay_outcome kind readings
 outcome_of (Audit report readings) = audit_outcome report readings
+outcome_of (Trial events) = Ok (Text (trial_text events))

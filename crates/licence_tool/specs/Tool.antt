@@ -6,9 +6,12 @@ use Rattle.outside.specs.Told.{TakesFront, told_with}
 use Rattle.feature_lines.specs.Licence.{Contents}
 use Rattle.script_text.specs.declared.line.ScriptLine.{ScriptLine}
 use Rattle.scripts.specs.Laws.{Histories}
-use Rattle.licence_tool.specs.Command.{Audit, CommandOf, Check, Replay, RunFiles}
+use Rattle.licence_tool.specs.Command.{Audit, CommandOf, Check, Replay, RunFiles, Trial}
 use Rattle.licence_tool.specs.Files.{AreOfCommand, AreReadings, Bytes, IsReading, told_by}
 use Rattle.licence_tool.specs.Outcome.{Due, IsRefuted, IsTold, licence_heard, options_heard, outcome_of, script_heard, script_told, sets_heard}
+use Rattle.options_machine.specs.Run.{IsRun}
+use Rattle.trial_replay.specs.Replayed.{run_of}
+use Rattle.trial_replay.specs.Terms.{bench_sets}
 use Rattle.licence_tool.specs.FaultText.{is_of_licence, is_of_options}
 use Rattle.licence_tool.specs.declared.command.ScriptReport.{ScriptReport}
 use Rattle.licence_tool.specs.declared.status.Status.{Status}
@@ -139,10 +142,11 @@ pub record TellsHistories (kind : ScriptReport) (readings : RunFiles Bytes) (old
   pub histories : Histories licence.pools sets script
   pub written : new ≡ told_with old (script_told kind licence.pools sets script)
 
--- what a status says of the histories of a replay or a report
+-- what a status says of the histories of a replay or a report, and that a trial's events are a run of its pool's rules
 abbrev pub HistoriesSay : CommandOf Bytes → Bytes → Bytes → Status → Type 0
 HistoriesSay (Check readings) old new status = Unit {0}
 HistoriesSay (Audit report readings) old new status = Unit {0}
+HistoriesSay (Trial events) old new status = IsRun bench_sets (run_of events)
 HistoriesSay (Replay kind readings) old new Done = TellsHistories kind readings old new
 HistoriesSay (Replay kind readings) old new Usage = Unit {0}
 HistoriesSay (Replay kind readings) old new WriteFault = Unit {0}

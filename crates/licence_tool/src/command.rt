@@ -1,9 +1,10 @@
 ghost use Rattle.std.specs.Prelude.{◌≡◌, ◌≤◌, IfSome, length, map, string_bytes};
 ghost use Rattle.std.specs.List.{list_all};
 ghost use Rattle.std.specs.Option.{option_map};
-ghost use Rattle.licence_tool.specs.Command.{HasFewMore, check_of, command_of, is_plain_word, named, run_named, run_of, third_in};
+ghost use Rattle.licence_tool.specs.Command.{IsWithinLimits, check_of, command_of, events_of, is_plain_word, named, run_named, run_of, third_in};
 ghost use Rattle.licence_tool.specs.Words.{command_in};
 
+use crate::numbers::number_within;
 use crate::words::Words;
 
 /// The names of the files of a replay, a report, an audit or a usage.
@@ -51,6 +52,8 @@ pub enum Command<'a> {
     Replay(ScriptReport, RunNames<'a>),
     /// Judges a log by a licence and options files, and writes this report on one that is a run.
     Audit(LogReport, RunNames<'a>),
+    /// Replays the first so many events of the trial, 1 to 1,000,000, and tells how often each reply came.
+    Trial(u32),
 }
 
 /// What the third file of a command is.
@@ -64,6 +67,9 @@ pub enum Third {
 
 /// The most further options files that a command may name.
 const MORE_LIMIT: usize = 3;
+
+/// The most events that a trial may have.
+const MOST_EVENTS: u64 = 1_000_000;
 
 /// Whether a word may name a file: it isn't empty and doesn't begin with `-`.
 pub fn is_plain_word(word: &str) -> bool
@@ -121,11 +127,23 @@ fn read_run(names: &[String]) -> Option<RunNames<'_>>
     }
 }
 
+/// How many events a trial is to have: one word, a number from 1 to 1,000,000. `None` comes exactly where the words are none.
+fn read_events(words: &[String]) -> Option<u32>
+    ensures events { result ≡ events_of (map string_bytes words.now) }
+    ensures within { IfSome result (λ events. events ≤ 1000000) }
+{
+    let [word] = words else {
+        return None;
+    };
+    number_within(word.as_str(), 1, MOST_EVENTS)
+}
+
 /// The command that the words are, without the program's name. `None` comes exactly where they are neither `check` and
-/// two words that may name files, nor `replay`, `report`, `audit` or `usage` and three to six of them.
+/// two words that may name files, nor `replay`, `report`, `audit` or `usage` and three to six of them, nor `trial-replay` and a
+/// number from 1 to 1,000,000.
 pub fn read_command(words: &[String]) -> Option<Command<'_>>
     ensures command { option_map named result ≡ command_of (map string_bytes words.now) }
-    ensures few { IfSome result HasFewMore }
+    ensures within { IfSome result IsWithinLimits }
 {
     let [verb, names @ ..] = words else {
         return None;
@@ -140,6 +158,8 @@ pub fn read_command(words: &[String]) -> Option<Command<'_>>
         Some(Command::Audit(LogReport::Users, read_run(names)?))
     } else if verb.as_str() == "usage" {
         Some(Command::Audit(LogReport::Days, read_run(names)?))
+    } else if verb.as_str() == "trial-replay" {
+        Some(Command::Trial(read_events(names)?))
     } else {
         None
     }

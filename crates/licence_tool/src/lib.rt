@@ -9,6 +9,7 @@ mod command;
 mod dates;
 mod err_line;
 mod fault_text;
+mod numbers;
 mod perform;
 mod reading;
 mod room;
@@ -19,6 +20,7 @@ mod words;
 
 pub use command::{Third, is_plain_word};
 pub use err_line::{put_status, write_line};
+pub use numbers::number_within;
 pub use reading::{read_licence_file, read_options_file, read_sets};
 pub use room::{ROOM, put};
 pub use running::tool;

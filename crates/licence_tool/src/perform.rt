@@ -8,6 +8,9 @@ ghost use Rattle.script_text.specs.Fits.{is_fit};
 ghost use Rattle.scripts.specs.Laws.{Histories};
 ghost use Rattle.scripts.specs.Reports.{report_of};
 ghost use Rattle.scripts.specs.Script.{output_of};
+ghost use Rattle.options_machine.specs.Run.{IsRun};
+ghost use Rattle.trial_replay.specs.Replayed.{run_of, trial_text};
+ghost use Rattle.trial_replay.specs.Terms.{bench_sets};
 ghost use Rattle.licence_tool.specs.Asked.{Asks, HasFailed, files_of};
 ghost use Rattle.licence_tool.specs.AuditText.{no_text};
 ghost use Rattle.licence_tool.specs.Command.{command_of, Audit, Check, Replay};
@@ -33,6 +36,7 @@ use outside::{Files, Sink, WriteFailed};
 use script_text::ScriptLine;
 use scripts::{PlayFault, play, report_script};
 use std::alloc::Global;
+use trial_replay::trial_text;
 
 /// Writes a text.
 fn write_text<O: Sink>(text: &[u8], out: &mut O) -> Result<(), Status>
@@ -271,6 +275,18 @@ fn audit<F: Files, O: Sink>(
     )
 }
 
+/// Replays the first so many events of the trial, and tells how often each reply came.
+fn trial<O: Sink>(alloc: Global, events: u32, out: &mut O) -> Result<(), Status>
+    requires { events ≤ 1000000 }
+    ensures says { WritingSays (HasRisen (O.faults out.old) (O.faults out.new)) (O.held out.old) (O.held out.new) (trial_text events) (status_of result) }
+    ensures run { IsRun bench_sets (run_of events) }
+{
+    let Ok(text) = trial_text(alloc, events) else {
+        return Err(Status::NoMemory);
+    };
+    write_text(text.as_slice(), out)
+}
+
 /// The status of what was done.
 fn status_of(done: Result<(), Status>) -> Status
     ensures { result ≡ status_of done }
@@ -320,6 +336,7 @@ fn perform_words<F: Files, O: Sink>(
             files,
             out,
         )),
+        Some(Command::Trial(events)) => status_of(trial(alloc, events, out)),
     }
 }
 

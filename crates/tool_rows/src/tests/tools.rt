@@ -11,6 +11,7 @@ mod faults;
 mod limits;
 mod rows;
 mod site;
+mod trials;
 mod usage;
 
 /// A file by its name, and what it holds.
@@ -110,7 +111,7 @@ fn expect_check(
 
 #[test]
 fn words_that_are_no_command(rt: HostRuntime) -> Result<(), Fail> {
-    let rows: [&[&str]; 20] = [
+    let rows: [&[&str]; 28] = [
         &[],
         &["check"],
         &["check", "licence"],
@@ -131,6 +132,14 @@ fn words_that_are_no_command(rt: HostRuntime) -> Result<(), Fail> {
         &["usage", "licence", "options"],
         &["usage", "licence", "options", "log", "a", "b", "c", "d"],
         &["trial", "licence", "options", "script"],
+        &["trial-replay"],
+        &["trial-replay", ""],
+        &["trial-replay", "0"],
+        &["trial-replay", "1000001"],
+        &["trial-replay", "18446744073709551617"],
+        &["trial-replay", "+8"],
+        &["trial-replay", "eight"],
+        &["trial-replay", "8", "8"],
     ];
     let held = [("licence", TWO), ("options", b""), ("script", b"")];
     for words in rows {
