@@ -1,6 +1,6 @@
-"""Counts the states of the k-assignment machine on small chains, and what the others do when one party stops, by a program that was written from
-the table of docs/K-ASSIGNMENT.md, apart from the crates. In each state the seats that are held differ. What crates/kex_search counts has to be
-the same."""
+"""Counts the states of the k-assignment machine on small chains, and what the others do when one party stops between two accesses or two calls, by
+a program that was written from the tables of docs/K-ASSIGNMENT.md, apart from the crates. In each state the seats that are held differ. What
+crates/kex_search counts has to be the same."""
 
 import sys
 from collections import deque
@@ -133,9 +133,82 @@ def stopped(net):
     return f"{runs} stops, {taken} seats taken by the others, none in {idle} of them, {most} held at most"
 
 
+class Seats:
+    """Seats with their sessions, each of which has a pass of the net. A session's call makes all accesses of its kind at once."""
+
+    def __init__(self, net, sessions):
+        self.net, self.state = net, net.opening()
+        self.own = list(range(sessions))
+
+    def place(self, session):
+        return self.state[0][self.own[session]]
+
+    def move(self, session):
+        self.state = self.net.move(self.state, self.own[session])
+
+    def begin(self, session):
+        """Nothing is due before the first access; whoever starts at Exit is through at once."""
+        return "through" if self.net.start[self.own[session]] is None else "entering"
+
+    def turn(self, session):
+        self.move(session)
+        return "through" if self.place(session)[0] in ("Naming", "Named") else "entering"
+
+    def name(self, session):
+        while self.place(session)[0] != "Holding":
+            self.move(session)
+        return "holding"
+
+    def leave(self, session):
+        while self.place(session) != OUT:
+            self.move(session)
+        return "out"
+
+
+class Gate(Seats):
+    """The same behind a gate: a session that meets fewer others than there are seats takes the first free pass of the gate."""
+
+    def __init__(self, net, sessions):
+        super().__init__(net, sessions)
+        self.parties, self.inside = range(sessions, net.parties), set()
+
+    def begin(self, session):
+        met, fast = len(self.inside), set(self.own) & set(self.parties)
+        self.inside.add(session)
+        if met < len(self.parties):
+            self.own[session] = min(set(self.parties) - fast)
+        return super().begin(session)
+
+    def leave(self, session):
+        left = super().leave(session)
+        self.own[session] = session
+        self.inside.remove(session)
+        return left
+
+
+def stopped_calls(made, net, sessions):
+    """The line that the program prints of the runs in which one session stops between two calls."""
+    runs = taken = idle = most = 0
+    for stopper in range(sessions):
+        for calls in range(13):
+            seats, own = made(net, sessions), 0
+            next_call = dict.fromkeys(range(sessions), "out")
+            others = [session for session in range(sessions) if session != stopper]
+            call = {"out": seats.begin, "entering": seats.turn, "through": seats.name, "holding": seats.leave}
+            for turn, session in enumerate([stopper] * calls + others * 200):
+                next_call[session] = call[next_call[session]](session)
+                own += turn >= calls and next_call[session] == "holding"
+                most = max(most, held(seats.state))
+            runs, taken, idle = runs + 1, taken + own, idle + (own == 0)
+    return f"{runs} stops, {taken} seats taken by the others, none in {idle} of them, {most} held at most"
+
+
 def main():
     counted = "".join(f"chain({n}, {k}): {searched(chain(n, k))}\n" for n, k in CHAINS)
     counted += "".join(f"{name}: {stopped(net)}\n" for name, net in (("chain(3, 2)", chain(3, 2)), ("tree(5, 2)", TREE), ("gated(5, 1)", GATED)))
+    counted += f"seats of chain(3, 2): {stopped_calls(Seats, chain(3, 2), 3)}\n"
+    counted += f"seats of tree(5, 2): {stopped_calls(Seats, TREE, 5)}\n"
+    counted += f"seats behind a gate(5, 1): {stopped_calls(Gate, GATED, 5)}\n"
     with open("crates/kex_search/stdout") as file:
         told = file.read()
     if counted != told:

@@ -1,7 +1,3 @@
-mod party;
 mod rows;
-mod safety;
 mod schedules;
-mod stops;
 mod threads;
-mod trial;

@@ -2,9 +2,9 @@
 ghost use Rattle.std.specs.Prelude.{◌≡◌, ◌+◌, ◌<◌, All, IfSome, vec_len, vec_capacity};
 ghost use Rattle.seat_names.specs.Turns.{pass_in_turn};
 
-use crate::tests::seats::trial::Trial;
 use kex_core::{NoMemory, Place};
 use kex_net::chain;
+use kex_parties::Parties;
 use kex_words::{Entering, Gathering, Hold, Out};
 use seat_names::{Seats, Turn};
 use std::alloc::Global;
@@ -27,13 +27,23 @@ fn expect(party: u32, accesses: u32, place: Place) -> Row {
     }
 }
 
+// so many accesses of one party
+fn steps(parties: &mut Parties, party: u32, accesses: u32)
+    requires { party < parties.old.table.net.parties }
+    ensures { parties.new.table ≡ parties.old.table }
+{
+    for _access in 0..accesses {
+        parties.step(party);
+    }
+}
+
 // the first of these rows that chain(3, 2) doesn't follow
 fn first_wrong(alloc: Global, rows: &[Row]) -> Result<Option<usize>, NoMemory> {
-    let mut trial = Trial::make(alloc, chain(alloc, 3, 2)?)?;
+    let mut parties = Parties::make(alloc, chain(alloc, 3, 2)?)?;
     for (i, row) in rows.iter().enumerate() {
         let party = row.party % 3;
-        trial.steps(party, row.accesses);
-        if trial.place(party) != row.place {
+        steps(&mut parties, party, row.accesses);
+        if parties.place(party) != row.place {
             return Ok(Some(i));
         }
     }

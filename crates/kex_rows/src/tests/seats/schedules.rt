@@ -1,9 +1,9 @@
 //! Forty schedules, by the machine and by step calls.
 ghost use Rattle.std.specs.Prelude.{◌≡◌, ◌<◌, IfOk};
 
-use crate::tests::seats::trial::Trial;
 use kex_core::{Net, NoMemory, World};
 use kex_net::{chain, tree};
+use kex_parties::Parties;
 use std::alloc::Global;
 use std::test::Fail;
 
@@ -29,11 +29,11 @@ impl Draws {
 }
 
 // whether each party stands at the same place in both
-fn agree(world: &World, trial: &Trial) -> bool
-    requires { world.now.net.parties ≡ trial.now.table.net.parties }
+fn agree(world: &World, parties: &Parties) -> bool
+    requires { world.now.net.parties ≡ parties.now.table.net.parties }
 {
-    for party in 0..trial.net().parties() {
-        if world.place(party) != trial.place(party) {
+    for party in 0..parties.net().parties() {
+        if world.place(party) != parties.place(party) {
             return false;
         }
     }
@@ -45,15 +45,15 @@ fn first_apart(alloc: Global, net: Net, same: Net, seed: u64) -> Result<Option<u
     requires { net.parties ≡ same.parties }
 {
     net.laws();
-    let parties = net.parties();
+    let count = net.parties();
     let mut world = World::make(alloc, net)?;
-    let mut trial = Trial::make(alloc, same)?;
+    let mut parties = Parties::make(alloc, same)?;
     let mut draws = Draws { state: seed };
     for step in 0..STEPS {
-        let party = draws.below(parties);
+        let party = draws.below(count);
         let _access = world.step(party);
-        trial.step(party);
-        if !agree(&world, &trial) {
+        parties.step(party);
+        if !agree(&world, &parties) {
             return Ok(Some(step));
         }
     }

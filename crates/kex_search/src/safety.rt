@@ -1,15 +1,15 @@
 //! Whether the parties stand safely, computed over their places.
-ghost use Rattle.std.specs.Prelude.{◌≡◌, ◌<◌, length, vec_len, IfOk};
+ghost use Rattle.std.specs.Prelude.{◌≡◌, ◌<◌};
 
 use kex_core::{Net, NoMemory, Place};
 use std::alloc::Global;
 
-// a set of parties, for a stage on their path
+/// A set of parties, for a stage on their path.
 #[derive(Clone, Copy)]
 enum Set {
-    // past the stage's Dec and before its Inc, and not waiting there
+    /// Past the stage's Dec and before its Inc, and not waiting there.
     Passed,
-    // past its Dec, and not yet past its Unmark
+    /// Past its Dec, and not yet past its Unmark.
     Between,
 }
 
@@ -27,6 +27,7 @@ impl Set {
     }
 }
 
+/// Whether whoever stands here is past all stages.
 fn is_inside(place: Place) -> bool {
     matches!(
         place,
@@ -34,7 +35,7 @@ fn is_inside(place: Place) -> bool {
     )
 }
 
-// whether stage j is on the party's path
+/// Whether stage j is on the party's path.
 fn is_on_path(net: &Net, party: u32, j: u32) -> bool
     requires { party < net.now.parties }
 {
@@ -49,23 +50,24 @@ fn is_on_path(net: &Net, party: u32, j: u32) -> bool
     at == Some(j)
 }
 
-// where each party stands, and who wrote each stage's spin word last
+/// Where each party stands, and who wrote each stage's spin word last.
 #[derive(Drop)]
-pub(super) struct Seen {
+pub(crate) struct Seen {
     places: Vec<Place>,
     writers: Vec<Option<u32>>,
 }
 
 impl Seen {
-    pub(super) fn make(alloc: Global, net: &Net) -> Result<Seen, NoMemory> {
+    /// All parties are Out, and nobody wrote.
+    pub(crate) fn make(alloc: Global, net: &Net) -> Result<Seen, NoMemory> {
         Ok(Seen {
             places: vec![in alloc; Place::Out; net.parties() as usize]?,
             writers: vec![in alloc; None; net.stages() as usize]?,
         })
     }
 
-    // the party's access led to this place
-    pub(super) fn note(&mut self, party: u32, place: Place) {
+    /// Notes to which place a party's access led.
+    pub(crate) fn note(&mut self, party: u32, place: Place) {
         if let Place::Mark(j) | Place::Unmark(j) = self.place(party) {
             if let Some(writer) = self.writers.get_mut(j as usize) {
                 *writer = Some(party);
@@ -87,7 +89,7 @@ impl Seen {
         self.writers.get(j as usize).copied().flatten() == Some(party)
     }
 
-    // how many parties are in the set of stage j, but for one
+    /// How many parties are in the set of stage j, but for one.
     fn count(&self, net: &Net, set: Set, j: u32, but: Option<u32>) -> u32 {
         let mut total = 0u32;
         for party in 0..net.parties() {
@@ -97,6 +99,7 @@ impl Seen {
         total
     }
 
+    /// How many hold the seat s.
     fn holders(&self, net: &Net, s: u32) -> u32 {
         let mut total = 0u32;
         for party in 0..net.parties() {
@@ -105,6 +108,7 @@ impl Seen {
         total
     }
 
+    /// How many are past all stages.
     fn insiders(&self, net: &Net) -> u32 {
         let mut total = 0u32;
         for party in 0..net.parties() {
@@ -113,7 +117,7 @@ impl Seen {
         total
     }
 
-    // whether a holder has a number of its own below the width, and a waiter that is named as many others at its stage as that admits
+    /// Whether a holder has a number of its own below the width, and a waiter that is named as many others at its stage as that admits.
     fn is_party_safe(&self, net: &Net, party: u32) -> bool {
         match self.place(party) {
             Place::Holding(s) => s < net.width() && self.holders(net, s) == 1,
@@ -126,8 +130,8 @@ impl Seen {
         }
     }
 
-    // whether no more have passed a stage than it admits, no more are inside than the net is wide, and each party is safe
-    pub(super) fn is_safe(&self, net: &Net) -> bool {
+    /// Whether no more have passed a stage than it admits, no more are inside than the net is wide, and each party is safe.
+    pub(crate) fn is_safe(&self, net: &Net) -> bool {
         for j in 0..net.stages() {
             if self.count(net, Set::Passed, j, None) > net.cap(j) {
                 return false;
