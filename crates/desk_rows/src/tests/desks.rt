@@ -271,3 +271,40 @@ fn a_reclaimed_seat_is_left_before_another_enters(rt: HostRuntime) -> Result<(),
     assert_eq!(rt; (log.entries.len(), log.cut), (6, false));
     Ok(())
 }
+
+// The party of this pass has no seat.
+fn rested(rt: &impl Abort, _desk: &Desk, pass: DeskPass) -> DeskPass
+    requires { IsOf pass _desk.now }
+    ensures { IsOf result _desk.now × Rests result }
+{
+    assert!(rt; !pass.holding());
+    pass
+}
+
+// Looks so often, one second after another.
+fn look_often<R: Wait>(rt: &R, desk: &Desk, pass: &mut DeskPass, client: &Client, times: u64)
+    requires { IsOf pass.old desk.now }
+    ensures { IsOf pass.new desk.now }
+{
+    for moment in 0..times {
+        asks(rt, desk, pass, Kind::Look, client, moment);
+    }
+}
+
+#[test]
+fn a_log_is_cut_behind_entry_4096(rt: HostRuntime) -> Result<(), Fail> {
+    let ann = client(b"ann")?;
+    let room = Vec::with_capacity(rt.alloc(), 2)?;
+    let (desk, mut passes, keeper) = desk_of(&rt, b"", 1, 2)?;
+    let two = last(&rt, &desk, &mut passes);
+    let mut one = last(&rt, &desk, &mut passes);
+    look_often(&rt, &desk, &mut one, &ann, 4097);
+    let (one, two) = (rested(&rt, &desk, one), rested(&rt, &desk, two));
+    let passes = both(&desk, room, one, two);
+    let (tally, log) = desk.close_with_log(&rt, passes, keeper);
+    assert_eq!(rt; (tally.calls, tally.grants, tally.uses), (4097, 0, 0));
+    assert_eq!(rt; (log.entries.len(), log.cut), (4096, true));
+    let last = log.entries.last().map(|entry| (entry.moment, entry.reply));
+    assert_eq!(rt; last, Some((4095, Reply::NotHeld)));
+    Ok(())
+}
