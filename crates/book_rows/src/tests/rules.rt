@@ -179,7 +179,8 @@ fn excluded(made: &DeskRules, user: &[u8], host: &[u8]) -> Result<Option<u32>, F
 
 #[test]
 fn pools_share_the_groups_of_their_file(rt: HostRuntime) -> Result<(), Fail> {
-    let file = b"GROUP g ann\nHOST_GROUP g h1\nGROUP h bob\nMAX 1 edit GROUP g\nEXCLUDE view GROUP h\n";
+    let file =
+        b"GROUP g ann\nHOST_GROUP g h1\nGROUP h bob\nMAX 1 edit GROUP g\nEXCLUDE view GROUP h\n";
     let options = read_options(rt.alloc(), file)?;
     let mut of_view = pool(2)?;
     of_view.name = name(b"view")?;
