@@ -25,14 +25,14 @@ def write(name, text):
 
 
 def run(words):
-    """Processor seconds of one run, the most memory that it had, in KiB, and what it wrote."""
+    """Processor seconds of one run, and what it wrote."""
     child = subprocess.Popen(words, stdout=subprocess.PIPE, stderr=subprocess.PIPE)
     out = child.stdout.read()
     _, status, used = os.wait4(child.pid, 0)
     child.returncode = os.waitstatus_to_exitcode(status)
     if child.returncode != 0:
         sys.exit(f"bench: status {child.returncode} of {' '.join(words)}: {child.stderr.read().decode()}")
-    return used.ru_utime + used.ru_stime, used.ru_maxrss, out
+    return used.ru_utime + used.ru_stime, out
 
 
 def least(*commands):
@@ -41,7 +41,7 @@ def least(*commands):
     for _ in range(RUNS):
         outs = set()
         for i, words in enumerate(commands):
-            taken, _, out = run(words)
+            taken, out = run(words)
             best[i] = taken if best[i] is None else min(best[i], taken)
             outs.add(out)
         if len(outs) > 1:
@@ -124,17 +124,17 @@ def steps(ours):
         print(f"{waiting} waiting: BEATEN {beat:.2f} us, RETURNED or QUEUED {turn:.2f} us", flush=True)
 
 
-def memory(ours):
+def memory(peak, ours):
     write("options", "LINGER bench 40\n")
     write("script", line(0, 0, 0, "CHECKOUT"))
     for count in (4, 256, 65535):
         write("licence", LICENCE.format(count))
-        print(f"a pool of {count}: {min(run(ours('script'))[1] for _ in range(RUNS))} KiB", flush=True)
+        print(f"a pool of {count}: {int(run([peak, *ours('script')])[1])} KiB", flush=True)
 
 
 def main():
     global PROGRAM
-    theirs = sys.argv[1]
+    theirs, peak = (f"{sys.argv[1]}/{name}" for name in ("book", "peak"))
     PROGRAM = os.path.abspath(sys.argv[2] if len(sys.argv) > 2 else PROGRAM)
     if not os.access(PROGRAM, os.X_OK):
         sys.exit(f"bench: {PROGRAM} isn't built")
@@ -144,7 +144,7 @@ def main():
         os.chdir(folder)
         beside_the_peer(ours, theirs)
         steps(ours)
-        memory(ours)
+        memory(peak, ours)
 
 
 main()

@@ -6,5 +6,7 @@
 cd "$(dirname "$0")/.." || exit 1
 peer=$(mktemp -d) || exit 1
 trap 'rm -rf "$peer"' EXIT
-rustc -O bench/peers/book.rs -o "$peer/book" || exit 1
-python3 -B bench/book.py "$peer/book" "$@"
+for program in book peak; do
+    rustc -O "bench/peers/$program.rs" -o "$peer/$program" || exit 1
+done
+python3 -B bench/book.py "$peer" "$@"
