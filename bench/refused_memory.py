@@ -172,16 +172,18 @@ def asked(daemon, number):
     return status, without_moments(log), err
 
 
-def client(refusals, tool, program, words, usual, who=("--user", "ann", "--host", "h1", "--display", "d1", "--project", "p1")):
-    """A client ends by want of memory or as always, whatever it is refused; the daemon has its seat back after each."""
+def client(refusals, tool, program, words, usual, printed):
+    """A client ends by want of memory or as always, whatever it is refused. The daemon has its seat back after each, and never hears another name than the environment's."""
+    os.environ.update(USER="ann", HOSTNAME="h1", DISPLAY="d1", LM_PROJECT="p1")
+    others = [((8, printed, "no memory\n"), "status 8")]
     with Daemon(tool, LICENCE) as daemon:
         if not daemon.is_up():
             sys.exit("the daemon isn't up")
 
         def end(number):
-            status, out, err = run([program, *who, daemon.path, *words], refusals.given(number))
-            found = told((status, re.sub(r"#\d+", "#N", out), err), number, usual)
-            with daemon.session("bob h2 d2 p2") as other:
+            status, out, err = run([program, daemon.path, *words], refusals.given(number))
+            found = told((status, re.sub(r"#\d+", "#N", out), err), number, usual, others)
+            with daemon.session("ann h1 d1 p1") as other:
                 for _ in range(1000):
                     if other.ask("CHECKOUT edit 1.0").startswith("GRANTED"):
                         break
@@ -191,17 +193,20 @@ def client(refusals, tool, program, words, usual, who=("--user", "ann", "--host"
             return found
 
         ends = refusals.ends(end)
-        if daemon.stopped()[0] != 0:
-            sys.exit("the daemon didn't end well")
+        status, log, _ = daemon.stopped()
+        if status != 0 or any(" ann h1 d1 p1 " not in line for line in log.splitlines() if line.startswith("ENTRY")):
+            sys.exit("the daemon didn't end well, or was asked by another name")
         return ends
 
 
 STATUS = "FEATURE                  IN USE     LINGERING  FREE       WAITING\nedit                     0          0          1          0\n"
+GRANTED = "GRANTED SEAT 0 OPEN #N\n"
+# Each command, how it ends, and what it may have printed before it found no memory.
 ASKS = (
-    (("ask", "CHECKOUT edit 1.0"), (0, "GRANTED SEAT 0 OPEN #N\n", "")),
-    (("status", "edit"), (0, STATUS, "")),
-    (("hold", "edit", "1.0"), (0, "GRANTED SEAT 0 OPEN #N\nRETURNED #N\n", "")),
-    (("reread", "0"), (0, "REREAD 0\n", "")),
+    (("ask", "CHECKOUT edit 1.0"), (0, GRANTED, ""), ""),
+    (("status", "edit"), (0, STATUS, ""), ""),
+    (("hold", "edit", "1.0"), (0, GRANTED + "RETURNED #N\n", ""), GRANTED),
+    (("reread", "0"), (0, "REREAD 0\n", ""), ""),
 )
 
 
@@ -220,8 +225,8 @@ def main():
         say("serve", serve(refusals, tool))
         beside = os.path.dirname(os.path.dirname(os.path.dirname(tool)))
         say("licence_lint", lint(refusals, f"{beside}/licence_lint/out/licence_lint"))
-        for words, usual in ASKS:
-            say(f"licence_client {words[0]}", client(refusals, tool, f"{beside}/licence_client/out/licence_client", words, usual))
+        for words, usual, printed in ASKS:
+            say(f"licence_client {words[0]}", client(refusals, tool, f"{beside}/licence_client/out/licence_client", words, usual, printed))
 
 
 main()
