@@ -1,7 +1,7 @@
 -- How the program ends.
 use Rattle.std.specs.Prelude.{ℕ, List, [], ◌∷◌, ◌++◌, codes, string_bytes}
 use Rattle.std.specs.declared.io.ErrorKind.{ErrorKind}
-use Rattle.std.specs.declared.io.ErrorKind.TheVariants.{PermissionDenied}
+use Rattle.std.specs.declared.io.ErrorKind.TheVariants.{OutOfMemory, PermissionDenied}
 use Rattle.lic_types.specs.declared.name.NameFault.{NameFault}
 use Rattle.lic_types.specs.declared.name.NameFault.TheVariants as name
 use Rattle.line_protocol.specs.declared.wire.WireFault.{WireFault}
@@ -19,7 +19,13 @@ use Rattle.licence_client.specs.declared.ending.End.TheVariants.{Done, Usage, No
 -- the end where connecting failed
 abbrev pub unconnected : ErrorKind → End
 unconnected PermissionDenied = NotAllowed
+unconnected OutOfMemory = Stopped cause.NoMemory
 unconnected kind = NoDaemon
+
+-- the end where the words of the command line could not be read
+abbrev pub unread : ErrorKind → End
+unread OutOfMemory = Stopped cause.NoMemory
+unread kind = Usage
 
 abbrev pub lost_code : Lost → ℕ
 lost_code Closed = 4

@@ -1,6 +1,6 @@
 //! How the program ends.
 ghost use Rattle.std.specs.Prelude.{◌≡◌, ◌++◌, OnOk, IfOk};
-ghost use Rattle.licence_client.specs.Ends.{bad_word_fault, bad_word_text, cause_line, code_of, fault_text, line_of, lost_text, name_fault_text, unconnected, variable_text, word_places, word_text};
+ghost use Rattle.licence_client.specs.Ends.{bad_word_fault, bad_word_text, cause_line, code_of, fault_text, line_of, lost_text, name_fault_text, unconnected, unread, variable_text, word_places, word_text};
 
 use client_talk::{BadWord, Cause, ClientWord, Lost};
 use lic_types::NameFault;
@@ -30,7 +30,18 @@ impl End {
     {
         match kind {
             ErrorKind::PermissionDenied => End::NotAllowed,
+            ErrorKind::OutOfMemory => End::Stopped(Cause::NoMemory),
             _ => End::NoDaemon,
+        }
+    }
+
+    /// The end where the words of the command line could not be read, for this cause.
+    pub fn unread(kind: ErrorKind) -> End
+        ensures { result ≡ unread kind }
+    {
+        match kind {
+            ErrorKind::OutOfMemory => End::Stopped(Cause::NoMemory),
+            _ => End::Usage,
         }
     }
 

@@ -1,11 +1,12 @@
 //! The name of this host.
-ghost use Rattle.std.specs.Prelude.{◌≡◌, ◌==◌, ◌≤◌, IfSome, Some, length, string_bytes};
+ghost use Rattle.std.specs.Prelude.{◌≡◌, ◌==◌, ◌≤◌, IfOk, IfSome, Some, length, string_bytes};
 ghost use Rattle.std.specs.List.{position, position_or_len};
 ghost use Rattle.licence_client.specs.Asked.{host_in};
 
 use lic_text::words_in;
-use outside::read_all;
-use std::alloc::Global;
+use outside::{FileFault, read_all};
+use std::alloc::{AllocError, Global};
+use std::io::ErrorKind;
 use std::rt::Files;
 use std::{fs, str};
 
@@ -31,18 +32,29 @@ fn line_end(text: &[u8]) -> usize
     first_feed(text).unwrap_or(text.len())
 }
 
-/// The first word of the first line of a text. `None` comes where there is none or memory ran out.
-fn host_in(alloc: Global, text: &[u8]) -> Option<String>
-    ensures { IfSome result (λ host. host_in text.now ≡ Some (string_bytes host)) }
+/// The first word of the first line of a text. `None` comes where there is none, or where it is no UTF-8.
+fn host_in(alloc: Global, text: &[u8]) -> Result<Option<String>, AllocError>
+    ensures { IfOk result (λ host. IfSome host (λ host. host_in text.now ≡ Some (string_bytes host))) }
 {
-    let word = words_in(&text[..line_end(text)]).next()?;
-    let host = str::from_utf8(word).ok()?;
-    String::from_str(alloc, host).ok()
+    let Some(word) = words_in(&text[..line_end(text)]).next() else {
+        return Ok(None);
+    };
+    match str::from_utf8(word) {
+        Ok(host) => Ok(Some(String::from_str(alloc, host)?)),
+        Err(_) => Ok(None),
+    }
 }
 
 /// The name of this host, where the system tells it.
-pub fn system_host(system: &impl Files, alloc: Global) -> Option<String> {
-    let mut file = fs::open(system, HOST_FILE).ok()?;
-    let text = read_all(alloc, &mut file, HOST_LIMIT).ok()?;
-    host_in(alloc, text.as_slice())
+pub fn system_host(system: &impl Files, alloc: Global) -> Result<Option<String>, AllocError> {
+    let mut file = match fs::open(system, HOST_FILE) {
+        Ok(file) => file,
+        Err(fault) if fault.kind() == ErrorKind::OutOfMemory => return Err(AllocError),
+        Err(_) => return Ok(None),
+    };
+    match read_all(alloc, &mut file, HOST_LIMIT) {
+        Ok(text) => host_in(alloc, text.as_slice()),
+        Err(FileFault::NoMemory) => Err(AllocError),
+        Err(_) => Ok(None),
+    }
 }

@@ -16,8 +16,8 @@ use clap::{ArgMatches, Error};
 use client_talk::{Cause, Errand, judge, run};
 use outside::{RealSink, Sink};
 use session_outside::{Clock, StillBell};
-use std::alloc::Global;
-use std::env;
+use std::alloc::{AllocError, Global};
+use std::env::{self, VarError};
 use std::io::Read;
 use std::net::Net;
 use std::os::unix::net::UnixStream;
@@ -75,8 +75,9 @@ fn show<O: Sink>(text: &str, out: &mut O) -> End {
 /// The words of the command line behind the program's name.
 fn words_of<R: Env + AllocGlobal>(rt: &R) -> Result<Vec<String>, End> {
     let mut words = Vec::new(rt.alloc());
-    let Ok(mut args) = env::args(rt) else {
-        return Err(End::Usage);
+    let mut args = match env::args(rt) {
+        Ok(args) => args,
+        Err(fault) => return Err(End::unread(fault.kind())),
     };
     let _ = args.next();
     for word in args {
@@ -87,22 +88,31 @@ fn words_of<R: Env + AllocGlobal>(rt: &R) -> Result<Vec<String>, End> {
     Ok(words)
 }
 
+/// What a variable of the environment has. `None` comes where it isn't there, or is no UTF-8.
+fn variable<R: Env + AllocGlobal>(rt: &R, name: &str) -> Result<Option<String>, AllocError> {
+    match env::var(rt, name) {
+        Ok(value) => Ok(Some(value)),
+        Err(VarError::OutOfMemory) => Err(AllocError),
+        Err(_) => Ok(None),
+    }
+}
+
 /// The name of this host, by HOSTNAME or else by the system.
-fn host_name<R: Env + Files + AllocGlobal>(rt: &R) -> Option<String> {
-    match env::var(rt, "HOSTNAME") {
-        Ok(host) => Some(host),
-        Err(_) => system_host(rt, rt.alloc()),
+fn host_name<R: Env + Files + AllocGlobal>(rt: &R) -> Result<Option<String>, AllocError> {
+    match variable(rt, "HOSTNAME")? {
+        Some(host) => Ok(Some(host)),
+        None => system_host(rt, rt.alloc()),
     }
 }
 
 /// What the environment says of who asks.
-fn defaults<R: Env + Files + AllocGlobal>(rt: &R) -> Defaults {
-    Defaults {
-        user: env::var(rt, "USER").ok(),
-        host: host_name(rt),
-        display: env::var(rt, "DISPLAY").ok(),
-        project: env::var(rt, "LM_PROJECT").ok(),
-    }
+fn defaults<R: Env + Files + AllocGlobal>(rt: &R) -> Result<Defaults, AllocError> {
+    Ok(Defaults {
+        user: variable(rt, "USER")?,
+        host: host_name(rt)?,
+        display: variable(rt, "DISPLAY")?,
+        project: variable(rt, "LM_PROJECT")?,
+    })
 }
 
 /// Does what words ask for that clap takes. Words that won't do are told before anybody is connected to.
@@ -160,21 +170,22 @@ fn client<
     I: Read + Send + Drop + 'static,
     O: Sink,
 >(rt: &R, clock: &mut K, input: I, out: &mut O) -> End {
-    match words_of(rt) {
-        Ok(words) => {
-            let defaults = defaults(rt);
-            obey(
-                rt,
-                rt.alloc(),
-                words.as_slice(),
-                &defaults,
-                clock,
-                input,
-                out,
-            )
-        }
-        Err(end) => end,
-    }
+    let words = match words_of(rt) {
+        Ok(words) => words,
+        Err(end) => return end,
+    };
+    let Ok(defaults) = defaults(rt) else {
+        return End::Stopped(Cause::NoMemory);
+    };
+    obey(
+        rt,
+        rt.alloc(),
+        words.as_slice(),
+        &defaults,
+        clock,
+        input,
+        out,
+    )
 }
 
 fn main(rt: HostRuntime) -> ExitCode {
