@@ -1,112 +1,121 @@
-use Rattle.std.proofs.Common.{◌≡◌, ℕ, ◌+◌, List, [], ◌++◌, length, take, Option, None, Some, refl, sym, ap, subst, ◌∙◌, append_assoc, append-nil, arith}
-use Rattle.std.proofs.Math.Seq.{take-append-add}
-use Rattle.std.proofs.lemmas.List.{take-append-le, length-append}
-use Rattle.std.specs.Prelude.{Result, Ok, Err}
-use Rattle.std.specs.Result.{OnErr, OnOk}
-use Rattle.outside.specs.Told.{TakesFront, told_with}
-use Rattle.desk_logs.specs.Gathered.{IsGathered, IsUnderWay}
-
-told_twice : (held : Option (List ℕ)) (a b : List ℕ) → told_with (told_with held a) b ≡ told_with held (a ++ b)
-told_twice None a b = refl
-told_twice (Some held) a b = ap Some (append_assoc held a b)
-
-told_none : (held : Option (List ℕ)) → held ≡ told_with held []
-told_none None = refl
-told_none (Some held) = ap Some (sym (append-nil held))
-
--- nothing was done
-pub stands : (old : Option (List ℕ)) (gathered : List ℕ) → IsGathered old old gathered gathered
-stands old gathered = record { done = []; written = told_none old; all = refl }
-
--- all that was gathered is written
-pub flushed : (old now : Option (List ℕ)) (text gathered : List ℕ) → now ≡ told_with old text → gathered ≡ [] → IsGathered old now gathered text
-flushed old now text gathered w e = record { done = text; written = w; all = ap (λ (g : List ℕ). text ++ g) e ∙ append-nil text }
-
--- a text is put behind it
-pub put_behind : (old now : Option (List ℕ)) (first gathered more new : List ℕ) → IsGathered old now gathered first → new ≡ gathered ++ more → IsGathered old now new (first ++ more)
-put_behind old now first gathered more new k e = record {
-  done = k.done;
-  written = k.written;
-  all = ap (λ (g : List ℕ). k.done ++ g) e ∙ (sym (append_assoc k.done gathered more) ∙ ap (λ (g : List ℕ). g ++ more) k.all);
-}
+use Rattle.std.proofs.Common.{◌≡◌, ℕ, List, [], ◌++◌, Option, Result, Ok, Err, refl, sym, ap, subst, ◌∙◌, append_assoc, append-nil, arith, vec_capacity}
+use Rattle.std.specs.Prelude.{Vec, OnOk}
+use Rattle.std.specs.declared.alloc.Global.{Global}
+use Rattle.outside.specs.Told.{Wrote, told_with}
+use Rattle.outside.specs.declared.sink.WriteFailed.{WriteFailed}
+use Rattle.outside.proofs.Told.{front_within, told_none, told_twice}
+use Rattle.desk_logs.specs.Gathered.{Gathers, IsGathered, IsUnderWay}
 
 -- one text after another
-pub both : (old now new : Option (List ℕ)) (first gathered piece more last : List ℕ) → IsGathered old now gathered (first ++ piece) → IsGathered now new last (gathered ++ more) → IsGathered old new last (first ++ (piece ++ more))
+both : (old now new : Option (List ℕ)) (first gathered piece more last : List ℕ) → IsGathered old now gathered (first ++ piece) → IsGathered now new last (gathered ++ more) → IsGathered old new last (first ++ (piece ++ more))
 both old now new first gathered piece more last j k = record {
   done = j.done ++ k.done;
   written = k.written ∙ (ap (λ (h : Option (List ℕ)). told_with h k.done) j.written ∙ told_twice old j.done k.done);
   all = append_assoc j.done k.done last ∙ (ap (λ (l : List ℕ). j.done ++ l) k.all ∙ (sym (append_assoc j.done gathered more) ∙ (ap (λ (l : List ℕ). l ++ more) j.all ∙ append_assoc first piece more)));
 }
 
--- a front of a text is a front of a longer one
-pub front_of_more : (old new : Option (List ℕ)) (text more : List ℕ) → TakesFront old new text → TakesFront old new (text ++ more)
-front_of_more old new text more f = (
-  f.0,
-  omega (arith, f.1, length-append text more),
-  f.2 ∙ ap (told_with old) (sym (take-append-le f.0 text more f.1)),
-)
+module _ {S : Type 0} {held : S → Option (List ℕ)} {faults : S → ℕ} where
+  -- nothing was put behind it
+  pub stands : (old : S) (before : Vec ℕ Global) → Gathers held faults old old before before before.items (Ok tt)
+  stands old before = record {
+    ok = record { done = []; written = told_none (held old); all = refl };
+    err = tt;
+    failed = tt;
+    steady = refl;
+    later = omega arith;
+    room = refl;
+  }
 
--- a front of what is left is, with what was written, a front of the whole
-pub front_behind : (old now new : Option (List ℕ)) (gathered text more : List ℕ) → IsGathered old now gathered text → TakesFront now new (gathered ++ more) → TakesFront old new (text ++ more)
-front_behind old now new gathered text more k f =
-    let all : k.done ++ (gathered ++ more) ≡ text ++ more = sym (append_assoc k.done gathered more) ∙ ap (λ (l : List ℕ). l ++ more) k.all in
-    let front : take (length k.done + f.0) (text ++ more) ≡ k.done ++ take f.0 (gathered ++ more) =
-    ap (take (length k.done + f.0)) (sym all) ∙ take-append-add k.done (gathered ++ more) f.0 in (
-      length k.done + f.0,
-      rw (← all) (omega (arith, length-append k.done (gathered ++ more), f.1)),
-      f.2 ∙ (ap (λ (h : Option (List ℕ)). told_with h (take f.0 (gathered ++ more))) k.written ∙ (told_twice old k.done (take f.0 (gathered ++ more)) ∙ ap (told_with old) (sym front))),
-    )
+  -- what was gathered is written
+  pub emptied : (old new : S) (before after : Vec ℕ Global) (result : Result (Unit {0}) WriteFailed) → Wrote held faults old new before.items result → OnOk result (after.items ≡ []) → vec_capacity after ≡ vec_capacity before
+      → Gathers held faults old new before after before.items result
+  emptied old new before after (Ok u) w empty room = record {
+    ok = record { done = before.items; written = w.ok; all = ap (λ (g : List ℕ). before.items ++ g) empty ∙ append-nil before.items };
+    err = tt;
+    failed = tt;
+    steady = w.steady;
+    later = w.later;
+    room = room;
+  }
+  emptied old new before after (Err e) w empty room = record { ok = tt; err = w.err; failed = w.failed; steady = tt; later = w.later; room = room }
 
--- a text begins
-pub begins : (old : Option (List ℕ)) (first whole : List ℕ) → IsUnderWay old old first first whole whole
-begins old first whole = record { done = []; taken = rw append-nil (stands old first); all = refl }
+  -- one text after another
+  pub joined : {old now new : S} {before between after : Vec ℕ Global} (first second : List ℕ) (result : Result (Unit {0}) WriteFailed) → Gathers held faults old now before between (before.items ++ first) (Ok tt)
+      → Gathers held faults now new between after (between.items ++ second) result → Gathers held faults old new before after (before.items ++ (first ++ second)) result
+  joined {before = before} first second (Ok u) j k = record {
+    ok = both _ _ _ before.items _ first second _ j.ok k.ok;
+    err = tt;
+    failed = tt;
+    steady = k.steady ∙ j.steady;
+    later = omega (arith, j.later, k.later);
+    room = k.room ∙ j.room;
+  }
+  joined {before = before} {between = between} first second (Err e) j k = record {
+    ok = tt;
+    err = front_within _ _ _ j.ok.done (between.items ++ second) [] (before.items ++ (first ++ second)) j.ok.written k.err
+        (ap (λ (l : List ℕ). j.ok.done ++ l) (append-nil (between.items ++ second))
+        ∙ (sym (append_assoc j.ok.done between.items second) ∙ (ap (λ (l : List ℕ). l ++ second) j.ok.all ∙ append_assoc before.items first second)));
+    failed = rw (← j.steady) k.failed;
+    steady = tt;
+    later = omega (arith, j.later, k.later);
+    room = k.room ∙ j.room;
+  }
 
--- a piece more of it is gathered
-pub goes_on : {old now new : Option (List ℕ)} {first gathered last left whole : List ℕ} (piece rest : List ℕ) → IsUnderWay old now first gathered left whole → left ≡ piece ++ rest → IsGathered now new last (gathered ++ piece) → IsUnderWay old new first last rest whole
-goes_on {old} {now} {new} {first} {gathered} {last} {left} {whole} piece rest w e k = record {
-  done = w.done ++ piece;
-  taken = both old now new first gathered w.done piece last w.taken k;
-  all = append_assoc w.done piece rest ∙ (ap (λ (l : List ℕ). w.done ++ l) (sym e) ∙ w.all);
-}
+  -- what failed at a front of the text failed at the text
+  pub cut_short : {old new : S} {before after : Vec ℕ Global} {whole text : List ℕ} {e : WriteFailed} (more : List ℕ) (fault : WriteFailed) → Gathers held faults old new before after whole (Err e) → whole ++ more ≡ text
+      → Gathers held faults old new before after text (Err fault)
+  cut_short {old = old} {whole = whole} more fault k is = record {
+    ok = tt;
+    err = front_within _ _ _ [] whole more _ (told_none (held old)) k.err is;
+    failed = k.failed;
+    steady = tt;
+    later = k.later;
+    room = k.room;
+  }
 
--- of a piece a front was written
-pub breaks_off : {old now : Option (List ℕ)} {first gathered left whole : List ℕ} (new : Option (List ℕ)) (piece rest : List ℕ) → IsUnderWay old now first gathered left whole → left ≡ piece ++ rest → TakesFront now new (gathered ++ piece) → TakesFront old new (first ++ whole)
-breaks_off {old} {now} {first} {gathered} {left} {whole} new piece rest w e f =
-    let all : ((first ++ w.done) ++ piece) ++ rest ≡ first ++ whole =
-    append_assoc (first ++ w.done) piece rest ∙ (append_assoc first w.done (piece ++ rest) ∙ ap (λ (l : List ℕ). first ++ l) (ap (λ (l : List ℕ). w.done ++ l) (sym e) ∙ w.all)) in
-    subst (λ (l : List ℕ). TakesFront old new l) all
-    (front_of_more old new ((first ++ w.done) ++ piece) rest (front_behind old now new gathered (first ++ w.done) piece w.taken f))
+  -- the whole is written
+  pub written : {old now new : S} {before between : Vec ℕ Global} {whole : List ℕ} (result : Result (Unit {0}) WriteFailed) → Gathers held faults old now before between whole (Ok tt)
+      → Wrote held faults now new between.items result → Wrote held faults old new whole result
+  written {old = old} {between = between} (Ok u) k w = record {
+    ok = w.ok ∙ (ap (λ (h : Option (List ℕ)). told_with h between.items) k.ok.written ∙ (told_twice (held old) k.ok.done between.items ∙ ap (told_with (held old)) k.ok.all));
+    err = tt;
+    failed = tt;
+    steady = w.steady ∙ k.steady;
+    later = omega (arith, k.later, w.later);
+  }
+  written {between = between} {whole = whole} (Err e) k w = record {
+    ok = tt;
+    err = front_within _ _ _ k.ok.done between.items [] whole k.ok.written w.err (ap (λ (l : List ℕ). k.ok.done ++ l) (append-nil between.items) ∙ k.ok.all);
+    failed = rw (← k.steady) w.failed;
+    steady = tt;
+    later = omega (arith, k.later, w.later);
+  }
 
--- nothing is left
-pub ends : {old now : Option (List ℕ)} {first gathered left whole : List ℕ} → IsUnderWay old now first gathered left whole → left ≡ [] → IsGathered old now gathered (first ++ whole)
-ends {old} {now} {first} {gathered} {left} {whole} w e =
-    subst (λ (l : List ℕ). IsGathered old now gathered (first ++ l)) (sym (append-nil w.done) ∙ (ap (λ (l : List ℕ). w.done ++ l) (sym e) ∙ w.all)) w.taken
+  -- the writing failed before that
+  pub unwritten : {old new : S} {before after : Vec ℕ Global} {whole text : List ℕ} {e : WriteFailed} (more : List ℕ) (fault : WriteFailed) → Gathers held faults old new before after whole (Err e) → whole ++ more ≡ text → Wrote held faults old new text (Err fault)
+  unwritten more fault k is = let g = cut_short more fault k is in record { ok = tt; err = g.err; failed = g.failed; steady = tt; later = g.later }
 
-pub on_err : {T E : Type 0} {P : Type 0} (r : Result T E) → P → OnErr r P
-on_err (Ok x) p = tt
-on_err (Err e) p = p
+  -- a text begins
+  pub begins : (old : S) (before : Vec ℕ Global) (whole : List ℕ) → IsUnderWay held faults old old before before whole whole
+  begins old before whole = record { done = []; taken = rw append-nil (stands old before); all = refl }
 
-pub map_ok : {T E : Type 0} {P Q : Type 0} (r : Result T E) → (P → Q) → OnOk r P → OnOk r Q
-map_ok (Ok x) f p = f p
-map_ok (Err e) f p = tt
+  -- a piece more of it is gathered
+  pub goes_on : {old now new : S} {before between after : Vec ℕ Global} {left whole : List ℕ} (piece rest : List ℕ) → IsUnderWay held faults old now before between left whole → left ≡ piece ++ rest
+      → Gathers held faults now new between after (between.items ++ piece) (Ok tt) → IsUnderWay held faults old new before after rest whole
+  goes_on piece rest w e k = record {
+    done = w.done ++ piece;
+    taken = joined w.done piece (Ok tt) w.taken k;
+    all = append_assoc w.done piece rest ∙ (ap (λ (l : List ℕ). w.done ++ l) (sym e) ∙ w.all);
+  }
 
-pub map_err : {T E : Type 0} {P Q : Type 0} (r : Result T E) → (P → Q) → OnErr r P → OnErr r Q
-map_err (Ok x) f p = tt
-map_err (Err e) f p = f p
+  -- a piece of it was not
+  pub breaks_off : {old now new : S} {before between after : Vec ℕ Global} {left whole : List ℕ} {e : WriteFailed} (piece rest : List ℕ) (fault : WriteFailed) → IsUnderWay held faults old now before between left whole → left ≡ piece ++ rest
+      → Gathers held faults now new between after (between.items ++ piece) (Err e) → Gathers held faults old new before after (before.items ++ whole) (Err fault)
+  breaks_off {before = before} {e = e} piece rest fault w is k =
+      cut_short rest fault (joined w.done piece (Err e) w.taken k)
+      (append_assoc before.items (w.done ++ piece) rest ∙ ap (λ (l : List ℕ). before.items ++ l) (append_assoc w.done piece rest ∙ (ap (λ (l : List ℕ). w.done ++ l) (sym is) ∙ w.all)))
 
--- of the first of two texts a front was written
-pub first_front : (old new : Option (List ℕ)) (first piece more : List ℕ) → TakesFront old new (first ++ piece) → TakesFront old new (first ++ (piece ++ more))
-first_front old new first piece more f =
-    subst (λ (l : List ℕ). TakesFront old new l) (append_assoc first piece more) (front_of_more old new (first ++ piece) more f)
-
--- the first was gathered, and of the second a front was written
-pub second_front : (old now new : Option (List ℕ)) (first gathered piece more : List ℕ) → IsGathered old now gathered (first ++ piece) → TakesFront now new (gathered ++ more) → TakesFront old new (first ++ (piece ++ more))
-second_front old now new first gathered piece more k f =
-    subst (λ (l : List ℕ). TakesFront old new l) (append_assoc first piece more) (front_behind old now new gathered (first ++ piece) more k f)
-
--- what was gathered is written
-pub last_front : (old now new : Option (List ℕ)) (gathered text : List ℕ) → IsGathered old now gathered text → TakesFront now new gathered → TakesFront old new text
-last_front old now new gathered text k f =
-    let P : List ℕ → Type 0 = λ l. TakesFront now new l in
-    let Q : List ℕ → Type 0 = λ l. TakesFront old new l in
-    subst Q (append-nil text) (front_behind old now new gathered text [] k (subst P (sym (append-nil gathered)) f))
+  -- nothing of it is left
+  pub ends : {old now : S} {before between : Vec ℕ Global} {left whole : List ℕ} → IsUnderWay held faults old now before between left whole → left ≡ [] → Gathers held faults old now before between (before.items ++ whole) (Ok tt)
+  ends {old = old} {now = now} {before = before} {between = between} w none =
+      subst (λ (l : List ℕ). Gathers held faults old now before between (before.items ++ l) (Ok tt)) (sym (append-nil w.done) ∙ (ap (λ (l : List ℕ). w.done ++ l) (sym none) ∙ w.all)) w.taken

@@ -1,8 +1,8 @@
 //! The logs and tallies of pools, written.
-ghost use Rattle.std.specs.Prelude.{◌≡◌, ◌+◌, ◌^◌, ◌≤◌, ◌<◌, ◌++◌, [], OnErr, OnOk, length, vec_capacity};
+ghost use Rattle.std.specs.Prelude.{◌≡◌, ◌+◌, ◌^◌, ◌≤◌, ◌<◌, ◌++◌, [], length, vec_capacity};
 ghost use Rattle.audit_log.specs.Entries.{entry_text};
-ghost use Rattle.outside.specs.Told.{HasRisen, TakesFront, told_with};
-ghost use Rattle.desk_logs.specs.Gathered.{IsGathered};
+ghost use Rattle.outside.specs.Told.{Wrote};
+ghost use Rattle.desk_logs.specs.Gathered.{Gathers};
 ghost use Rattle.desk_logs.specs.Text.{entries_from, log_of, logs_text, numbered, tally_of};
 
 use crate::gather::{flush, gather};
@@ -21,12 +21,7 @@ fn put_entry<O: Sink>(
     entry: &Entry,
 ) -> Result<(), WriteFailed>
     requires { 640 ≤ vec_capacity gathered.old }
-    ensures ok { OnOk result (IsGathered (O.held out.old) (O.held out.new) gathered.new.items (gathered.old.items ++ entry_text pool place entry.now)) }
-    ensures err { OnErr result (TakesFront (O.held out.old) (O.held out.new) (gathered.old.items ++ entry_text pool place entry.now)) }
-    ensures failed { OnErr result (HasRisen (O.faults out.old) (O.faults out.new)) }
-    ensures steady { OnOk result (O.faults out.new ≡ O.faults out.old) }
-    ensures later { O.faults out.old ≤ O.faults out.new }
-    ensures room { vec_capacity gathered.new ≡ vec_capacity gathered.old }
+    ensures { Gathers O.held O.faults out.old out.new gathered.old gathered.new (gathered.old.items ++ entry_text pool place entry.now) result }
 {
     let mut room = [0; 640];
     let at = write_entry(pool, place, entry, &mut room);
@@ -41,12 +36,7 @@ fn put_entries<O: Sink>(
     entries: &[Entry],
 ) -> Result<(), WriteFailed>
     requires { 640 ≤ vec_capacity gathered.old }
-    ensures ok { OnOk result (IsGathered (O.held out.old) (O.held out.new) gathered.new.items (gathered.old.items ++ entries_from pool 0 entries.now)) }
-    ensures err { OnErr result (TakesFront (O.held out.old) (O.held out.new) (gathered.old.items ++ entries_from pool 0 entries.now)) }
-    ensures failed { OnErr result (HasRisen (O.faults out.old) (O.faults out.new)) }
-    ensures steady { OnOk result (O.faults out.new ≡ O.faults out.old) }
-    ensures later { O.faults out.old ≤ O.faults out.new }
-    ensures room { vec_capacity gathered.new ≡ vec_capacity gathered.old }
+    ensures { Gathers O.held O.faults out.old out.new gathered.old gathered.new (gathered.old.items ++ entries_from pool 0 entries.now) result }
 {
     for (place, entry) in entries.iter().enumerate() {
         put_entry(out, gathered, pool, place as u64, entry)?;
@@ -62,12 +52,7 @@ fn put_log<O: Sink>(
     log: &DeskLog,
 ) -> Result<(), WriteFailed>
     requires { 640 ≤ vec_capacity gathered.old }
-    ensures ok { OnOk result (IsGathered (O.held out.old) (O.held out.new) gathered.new.items (gathered.old.items ++ log_of pool log.now)) }
-    ensures err { OnErr result (TakesFront (O.held out.old) (O.held out.new) (gathered.old.items ++ log_of pool log.now)) }
-    ensures failed { OnErr result (HasRisen (O.faults out.old) (O.faults out.new)) }
-    ensures steady { OnOk result (O.faults out.new ≡ O.faults out.old) }
-    ensures later { O.faults out.old ≤ O.faults out.new }
-    ensures room { vec_capacity gathered.new ≡ vec_capacity gathered.old }
+    ensures { Gathers O.held O.faults out.old out.new gathered.old gathered.new (gathered.old.items ++ log_of pool log.now) result }
 {
     let entries = log.entries.as_slice();
     put_entries(out, gathered, pool, entries)?;
@@ -84,12 +69,7 @@ fn put_tally<O: Sink>(
     tally: &DeskTally,
 ) -> Result<(), WriteFailed>
     requires { 640 ≤ vec_capacity gathered.old }
-    ensures ok { OnOk result (IsGathered (O.held out.old) (O.held out.new) gathered.new.items (gathered.old.items ++ tally_of pool tally.now)) }
-    ensures err { OnErr result (TakesFront (O.held out.old) (O.held out.new) (gathered.old.items ++ tally_of pool tally.now)) }
-    ensures failed { OnErr result (HasRisen (O.faults out.old) (O.faults out.new)) }
-    ensures steady { OnOk result (O.faults out.new ≡ O.faults out.old) }
-    ensures later { O.faults out.old ≤ O.faults out.new }
-    ensures room { vec_capacity gathered.new ≡ vec_capacity gathered.old }
+    ensures { Gathers O.held O.faults out.old out.new gathered.old gathered.new (gathered.old.items ++ tally_of pool tally.now) result }
 {
     let mut room = [0; 640];
     let at = write_tally(pool, tally.calls, tally.grants, tally.uses, &mut room);
@@ -104,12 +84,7 @@ fn put_logs<O: Sink>(
 ) -> Result<(), WriteFailed>
     requires few { length logs.now ≤ 2 ^ 32 }
     requires room { 640 ≤ vec_capacity gathered.old }
-    ensures ok { OnOk result (IsGathered (O.held out.old) (O.held out.new) gathered.new.items (gathered.old.items ++ numbered log_of 0 logs.now)) }
-    ensures err { OnErr result (TakesFront (O.held out.old) (O.held out.new) (gathered.old.items ++ numbered log_of 0 logs.now)) }
-    ensures failed { OnErr result (HasRisen (O.faults out.old) (O.faults out.new)) }
-    ensures steady { OnOk result (O.faults out.new ≡ O.faults out.old) }
-    ensures later { O.faults out.old ≤ O.faults out.new }
-    ensures room { vec_capacity gathered.new ≡ vec_capacity gathered.old }
+    ensures { Gathers O.held O.faults out.old out.new gathered.old gathered.new (gathered.old.items ++ numbered log_of 0 logs.now) result }
 {
     for (pool, log) in logs.iter().enumerate() {
         put_log(out, gathered, pool as u32, log)?;
@@ -125,12 +100,7 @@ fn put_tallies<O: Sink>(
 ) -> Result<(), WriteFailed>
     requires few { length tallies.now ≤ 2 ^ 32 }
     requires room { 640 ≤ vec_capacity gathered.old }
-    ensures ok { OnOk result (IsGathered (O.held out.old) (O.held out.new) gathered.new.items (gathered.old.items ++ numbered tally_of 0 tallies.now)) }
-    ensures err { OnErr result (TakesFront (O.held out.old) (O.held out.new) (gathered.old.items ++ numbered tally_of 0 tallies.now)) }
-    ensures failed { OnErr result (HasRisen (O.faults out.old) (O.faults out.new)) }
-    ensures steady { OnOk result (O.faults out.new ≡ O.faults out.old) }
-    ensures later { O.faults out.old ≤ O.faults out.new }
-    ensures room { vec_capacity gathered.new ≡ vec_capacity gathered.old }
+    ensures { Gathers O.held O.faults out.old out.new gathered.old gathered.new (gathered.old.items ++ numbered tally_of 0 tallies.now) result }
 {
     for (pool, tally) in tallies.iter().enumerate() {
         put_tally(out, gathered, pool as u32, tally)?;
@@ -155,11 +125,7 @@ pub fn write_logs<O: Sink>(
     requires tallies { length tallies.now ≤ 2 ^ 32 }
     requires empty { buffer.old.items ≡ [] }
     requires room { 8192 ≤ vec_capacity buffer.old }
-    ensures ok { OnOk result (O.held out.new ≡ told_with (O.held out.old) (logs_text logs.now tallies.now)) }
-    ensures err { OnErr result (TakesFront (O.held out.old) (O.held out.new) (logs_text logs.now tallies.now)) }
-    ensures failed { OnErr result (HasRisen (O.faults out.old) (O.faults out.new)) }
-    ensures steady { OnOk result (O.faults out.new ≡ O.faults out.old) }
-    ensures later { O.faults out.old ≤ O.faults out.new }
+    ensures { Wrote O.held O.faults out.old out.new (logs_text logs.now tallies.now) result }
 {
     put_logs(out, buffer, logs)?;
     put_tallies(out, buffer, tallies)?;

@@ -1,9 +1,9 @@
-ghost use Rattle.std.specs.Prelude.{◌≡◌, ◌<◌, ◌≤◌, ◌↔◌, ◌⊎◌, ◌∷◌, [], ℕ, List, None, IfOk, OnErr, OnOk, length, map, string_bytes, true};
+ghost use Rattle.std.specs.Prelude.{◌≡◌, ◌<◌, ◌≤◌, ◌↔◌, ◌⊎◌, ◌∷◌, [], ℕ, List, None, IfOk, length, map, string_bytes, true};
 ghost use Rattle.std.specs.List.{list_all};
 ghost use Rattle.check_text.specs.Check.{check_of};
 ghost use Rattle.log_audit.specs.Audited.{sets_of};
 ghost use Rattle.log_audit.specs.Log.{is_fit as is_fit_at};
-ghost use Rattle.outside.specs.Told.{HasRisen, TakesFront, told_with};
+ghost use Rattle.outside.specs.Told.{HasRisen, Wrote};
 ghost use Rattle.script_text.specs.Fits.{is_fit};
 ghost use Rattle.scripts.specs.Laws.{Histories};
 ghost use Rattle.scripts.specs.Reports.{report_of};
@@ -148,9 +148,7 @@ fn write_no<O: Sink>(
     reply: &Reply,
     out: &mut O,
 ) -> Result<(), WriteFailed>
-    ensures ok { OnOk result (O.held out.new ≡ told_with (O.held out.old) (no_text line place moment reply.now)) }
-    ensures err { OnErr result (TakesFront (O.held out.old) (O.held out.new) (no_text line place moment reply.now)) }
-    ensures failed { OnErr result (HasRisen (O.faults out.old) (O.faults out.new)) }
+    ensures { Wrote O.held O.faults out.old out.new (no_text line place moment reply.now) result }
 {
     let mut room = [0; NO_ROOM];
     let end = put_no(&mut room, line, place, moment, reply);

@@ -1,8 +1,7 @@
 -- The output lines are replies of entries of the histories that the whole script makes.
-use Rattle.std.proofs.Common.{◌≡◌, ℕ, zero, suc, ◌+◌, ◌<◌, Bool, true, false, List, [], ◌∷◌, ◌++◌, length, map, Option, None, Some, cond, refl, sym, ap, ◌∙◌, subst, append_assoc, arith, ltb, slice_get}
+use Rattle.std.proofs.Common.{◌≡◌, ℕ, zero, suc, ◌<◌, Bool, true, false, List, [], ◌∷◌, ◌++◌, length, map, Option, None, Some, cond, refl, sym, ap, ◌∙◌, subst, append_assoc, arith, ltb, slice_get}
 use Rattle.std.proofs.lemmas.List.{append-nil, length-map}
 use Rattle.std.specs.List.{position_from}
-use Rattle.feature_lines.specs.declared.pool.Pool.{Pool}
 use Rattle.feature_lines.specs.declared.route.Found.{Found}
 use Rattle.feature_lines.specs.declared.route.Found.TheVariants.{Pool as At, Unknown, Expired}
 use Rattle.feature_lines.specs.Route.{route}
@@ -11,10 +10,11 @@ use Rattle.lic_types.specs.declared.version.Version.{Version}
 use Rattle.options_machine.specs.Step.{set_asked}
 use Rattle.options_machine.specs.declared.reply.Entry.{Entry}
 use Rattle.script_text.specs.declared.line.ScriptLine.{ScriptLine}
+use Rattle.scripts.specs.Answers.{answer_text}
 use Rattle.scripts.specs.Desks.{IsThere}
 use Rattle.scripts.specs.Laws.{AnswersLine, AreAnswered, IsAnswered}
 use Rattle.scripts.specs.Ledgers.{Ledger}
-use Rattle.scripts.specs.Script.{after_asked, after_line, after_sent, changed_at, entered, entry_line, entry_of, found_or, keeps_place, ledgers_from, routed, sent, sent_line}
+use Rattle.scripts.specs.Script.{after_asked, after_line, after_sent, changed_at, entered, entry_answer, entry_of, found_or, keeps_place, ledgers_from, routed, sent, sent_answer}
 use Rattle.scripts.proofs.Steps.{position_within, route_there}
 
 -- the later ledger goes on from the earlier one
@@ -105,7 +105,7 @@ behind [] e rest = refl
 behind (x ∷ h) e rest = behind h e rest
 
 -- the output line of a script line that went there
-answered : (whole ls : List Ledger) (line : ScriptLine) (found : Found) → IsThere (length ls) found → AllGoOn (after_sent ls line found) whole → IsAnswered whole (sent_line ls line found) found
+answered : (whole ls : List Ledger) (line : ScriptLine) (found : Found) → IsThere (length ls) found → AllGoOn (after_sent ls line found) whole → IsAnswered whole (answer_text (sent_answer ls line found)) found
 answered whole ls line (At at) h k =
     let (l, is) = within at ls h in
     let found = later at (changed_at at (entered line) ls) whole (entered line l) k (at_changed line at ls l is) in
@@ -116,7 +116,7 @@ answered whole ls line (At at) h k =
       entry = entry_of l.sets l.run line;
       there = found.there;
       entered = ap (λ (r : List Entry). slice_get r (length l.run)) found.goes.run ∙ behind l.run (entry_of l.sets l.run line) found.goes.rest;
-      says = ap (entry_line line) is;
+      says = ap (λ (l : Option Ledger). answer_text (entry_answer line l)) is;
     }
 answered whole ls line Unknown h k = tt
 answered whole ls line (Expired day) h k = tt

@@ -1,7 +1,6 @@
-use Rattle.std.proofs.Common.{◌≡◌, ℕ, zero, suc, ◌+◌, ◌-◌, ◌<◌, ◌^◌, Bool, true, false, ◌&&◌, List, [], ◌∷◌, ◌++◌, length, map, drop, get_or, Option, None, Some, cond, refl, sym, ap, ◌∙◌, add-one, ltb, slice_get, subst, unwrap_or}
+use Rattle.std.proofs.Common.{◌≡◌, ℕ, zero, suc, ◌+◌, ◌-◌, ◌<◌, ◌^◌, Bool, true, false, ◌&&◌, List, [], ◌∷◌, ◌++◌, length, map, drop, get_or, Option, None, Some, Ok, Err, cond, refl, sym, ap, ◌∙◌, add-one, ltb, slice_get, subst, unwrap_or}
 use Rattle.std.proofs.Math.Seq.{drop-cons}
 use Rattle.std.proofs.lemmas.Bool.{ltb-true}
-use Rattle.std.proofs.lemmas.List.{append-nil}
 use Rattle.std.proofs.lemmas.Option.{unwrap_or-slice_get}
 use Rattle.std.specs.List.{list_all, position_from}
 use Rattle.feature_lines.specs.Route.{route}
@@ -14,17 +13,21 @@ use Rattle.options_machine.proofs.Counts.{and_left, and_right}
 use Rattle.options_machine.specs.Step.{set_asked}
 use Rattle.options_machine.specs.declared.reply.Reply.{Reply}
 use Rattle.options_text.specs.Options.{OptionsFile}
-use Rattle.outside.specs.Told.{TakesFront, told_with}
+use Rattle.outside.specs.Told.{Wrote}
+use Rattle.outside.specs.declared.sink.WriteFailed.{WriteFailed}
 use Rattle.script_text.specs.Fits.{has_its_words, is_fit}
 use Rattle.script_text.specs.declared.line.ScriptLine.{ScriptLine}
-use Rattle.scripts.specs.Desks.{answer_at, desk_line, desk_of, desks_after, desks_asked, desks_sent, entered_at, is_named, is_ready, keeps_at, line_asked_at, line_at, line_sent, routed_at, sent_at, sent_by}
+use Rattle.scripts.specs.Answers.{answer_text}
+use Rattle.scripts.specs.Desks.{answer_asked, answer_at, answer_there, desk_answer, desk_of, desks_after, desks_answer, desks_asked, desks_sent, entered_at, is_named, is_ready, keeps_at, routed_at, sent_at, sent_by}
 use Rattle.scripts.specs.Ledgers.{Ledger, opened_all}
 use Rattle.scripts.specs.Played.{AreDesks, IsDesk, IsPlayed}
-use Rattle.scripts.specs.Script.{after_asked, after_line, after_sent, changed_at, entered, entry_line, found_or, keeps_place, line_asked, output_from, output_of, reply_line, routed, sent, sent_line, sent_to}
+use Rattle.scripts.specs.Script.{after_asked, after_line, after_sent, asked_answer, changed_at, entered, entry_answer, found_or, keeps_place, output_from, output_of, routed, sent, sent_answer, sent_to}
+use Rattle.scripts.specs.declared.answers.Answer.{Answer}
+use Rattle.scripts.specs.declared.answers.Answer.TheVariants as answers
 use Rattle.scripts.specs.declared.desk.Desk.{Desk}
 use Rattle.scripts.proofs.Stands.{are_ready, as_many, desks_changed, desks_entered, desks_opened, desks_wait, replies_same}
 use Rattle.scripts.proofs.Steps.{one_of_all}
-use Rattle.scripts.proofs.Writes.{left_front, left_more}
+use Rattle.scripts.proofs.Writes.{all_left, left_more, left_over}
 
 -- the first desk that passes stands where the first ledger that passes does
 same_position : (sets lines : ℕ) (p : Desk → Bool) (q : Ledger → Bool) → ((d : Desk) (l : Ledger) → IsDesk sets lines d l → p d ≡ q l)
@@ -62,27 +65,27 @@ same_sent : (sets lines : ℕ) (pools : List Pool) (ds : List Desk) (ls : List L
 same_sent sets lines pools ds ls line None within is k = refl
 same_sent sets lines pools ds ls line (Some name) within is k = same_sent_to sets lines pools ds ls line name within is k
 
-same_entry_line : (sets lines : ℕ) (line : ScriptLine) (d : Desk) (l : Ledger) → IsDesk sets lines d l → desk_line line (Some d) ≡ entry_line line (Some l)
-same_entry_line sets lines line d l k =
-    ap (λ (n : ℕ). reply_line (answer_at line d).0 n) k.counted ∙ ap (λ (r : Reply). reply_line r (length l.run)) (replies_same sets lines line d l k)
+same_entry : (sets lines : ℕ) (line : ScriptLine) (d : Desk) (l : Ledger) → IsDesk sets lines d l → desk_answer line (Some d) ≡ entry_answer line (Some l)
+same_entry sets lines line d l k =
+    ap (λ (n : ℕ). answers.Entry (answer_at line d).0 n) k.counted ∙ ap (λ (r : Reply). answers.Entry r (length l.run)) (replies_same sets lines line d l k)
 
-same_line_at : (sets lines : ℕ) (line : ScriptLine) (at : ℕ) (ds : List Desk) (ls : List Ledger) → AreDesks sets lines ds ls → desk_line line (slice_get ds at) ≡ entry_line line (slice_get ls at)
-same_line_at sets lines line at [] [] k = refl
-same_line_at sets lines line at [] (l ∷ ls) k = absurd k
-same_line_at sets lines line at (d ∷ ds) [] k = absurd k
-same_line_at sets lines line zero (d ∷ ds) (l ∷ ls) k = same_entry_line sets lines line d l k.0
-same_line_at sets lines line (suc at) (d ∷ ds) (l ∷ ls) k = same_line_at sets lines line at ds ls k.1
+same_entry_at : (sets lines : ℕ) (line : ScriptLine) (at : ℕ) (ds : List Desk) (ls : List Ledger) → AreDesks sets lines ds ls → desk_answer line (slice_get ds at) ≡ entry_answer line (slice_get ls at)
+same_entry_at sets lines line at [] [] k = refl
+same_entry_at sets lines line at [] (l ∷ ls) k = absurd k
+same_entry_at sets lines line at (d ∷ ds) [] k = absurd k
+same_entry_at sets lines line zero (d ∷ ds) (l ∷ ls) k = same_entry sets lines line d l k.0
+same_entry_at sets lines line (suc at) (d ∷ ds) (l ∷ ls) k = same_entry_at sets lines line at ds ls k.1
 
-same_line_sent : (sets lines : ℕ) (line : ScriptLine) (ds : List Desk) (ls : List Ledger) (found : Found) → AreDesks sets lines ds ls → line_sent ds line found ≡ sent_line ls line found
-same_line_sent sets lines line ds ls (At at) k = same_line_at sets lines line at ds ls k
-same_line_sent sets lines line ds ls Unknown k = refl
-same_line_sent sets lines line ds ls (Expired day) k = refl
+same_there : (sets lines : ℕ) (line : ScriptLine) (ds : List Desk) (ls : List Ledger) (found : Found) → AreDesks sets lines ds ls → answer_there ds line found ≡ sent_answer ls line found
+same_there sets lines line ds ls (At at) k = same_entry_at sets lines line at ds ls k
+same_there sets lines line ds ls Unknown k = refl
+same_there sets lines line ds ls (Expired day) k = refl
 
-same_line : (sets lines : ℕ) (pools : List Pool) (ds : List Desk) (ls : List Ledger) (line : ScriptLine) (asked : Option ℕ) → line.party < 256
-    → map (λ (l : Ledger). l.pool) ls ≡ pools → AreDesks sets lines ds ls → line_asked_at sets pools ds line asked ≡ line_asked sets ls line asked
-same_line sets lines pools ds ls line None within is k =
-    ap (line_sent ds line) (same_sent sets lines pools ds ls line line.feature within is k) ∙ same_line_sent sets lines line ds ls (sent ls line line.feature) k
-same_line sets lines pools ds ls line (Some n) within is k = refl
+same_answer : (sets lines : ℕ) (pools : List Pool) (ds : List Desk) (ls : List Ledger) (line : ScriptLine) (asked : Option ℕ) → line.party < 256
+    → map (λ (l : Ledger). l.pool) ls ≡ pools → AreDesks sets lines ds ls → answer_asked sets pools ds line asked ≡ asked_answer sets ls line asked
+same_answer sets lines pools ds ls line None within is k =
+    ap (answer_there ds line) (same_sent sets lines pools ds ls line line.feature within is k) ∙ same_there sets lines line ds ls (sent ls line line.feature) k
+same_answer sets lines pools ds ls line (Some n) within is k = refl
 
 sent_on : (sets lines : ℕ) (line : ScriptLine) (ds : List Desk) (ls : List Ledger) (found : Found) → line.party < 256 → AreDesks sets lines ds ls
     → AreDesks sets (lines + 1) (desks_sent ds line found) (after_sent ls line found)
@@ -126,57 +129,54 @@ same_pools sets ls line (Some n) = reread_pools line ls (ltb n sets)
 
 -- the text that is left, by the desks
 left_at : (sets lines : ℕ) (pools : List Pool) (ds : List Desk) (line : ScriptLine) (rest : List ScriptLine) (ls : List Ledger) → line.party < 256
-    → map (λ (l : Ledger). l.pool) ls ≡ pools → AreDesks sets lines ds ls → output_from sets ls (line ∷ rest) ≡ line_at sets pools ds line ++ output_from sets (after_line sets ls line) rest
+    → map (λ (l : Ledger). l.pool) ls ≡ pools → AreDesks sets lines ds ls → output_from sets ls (line ∷ rest) ≡ answer_text (desks_answer sets pools ds line) ++ output_from sets (after_line sets ls line) rest
 left_at sets lines pools ds line rest ls within is k =
-    ap (λ (text : List ℕ). text ++ output_from sets (after_line sets ls line) rest) (sym (same_line sets lines pools ds ls line (set_asked line.kind) within is k))
+    ap (λ (answer : Answer). answer_text answer ++ output_from sets (after_line sets ls line) rest) (sym (same_answer sets lines pools ds ls line (set_asked line.kind) within is k))
 
--- a line more was played
-pub played_more : (sets lines : ℕ) (pools : List Pool) (ds : List Desk) (line : ScriptLine) (left rest : List ScriptLine) (old now new : Option (List ℕ)) (whole : List ℕ)
-    → line.party < 256 → left ≡ line ∷ rest → new ≡ told_with now (line_at sets pools ds line) → IsPlayed sets lines pools ds left old now whole
-    → IsPlayed sets (lines + 1) pools (desks_after sets pools ds line) rest old new whole
-played_more sets lines pools ds line left rest old now new whole within next w k = record {
-  ledgers = after_line sets k.ledgers line;
-  pooled = same_pools sets k.ledgers line (set_asked line.kind) ∙ k.pooled;
-  desked = asked_on sets lines pools ds k.ledgers line (set_asked line.kind) within k.pooled k.desked;
-  text = left_more old now new (output_from sets k.ledgers left) (line_at sets pools ds line) (output_from sets (after_line sets k.ledgers line) rest) whole k.text w
-      (ap (λ (ls : List ScriptLine). output_from sets k.ledgers ls) next ∙ left_at sets lines pools ds line rest k.ledgers within k.pooled k.desked);
-}
+module _ {S : Type 0} (held : S → Option (List ℕ)) (faults : S → ℕ) (sets lines : ℕ) (pools : List Pool) (ds : List Desk) (line : ScriptLine) (left rest : List ScriptLine) (old now new : S) (whole : List ℕ) where
+  -- a line more was played
+  pub played_more : {u : Unit {0}} (answer : Answer) → line.party < 256 → left ≡ line ∷ rest → answer ≡ desks_answer sets pools ds line → Wrote held faults now new (answer_text answer) (Ok u)
+      → IsPlayed held faults sets lines pools ds left old now whole → IsPlayed held faults sets (lines + 1) pools (desks_after sets pools ds line) rest old new whole
+  played_more answer within next is w k = record {
+    ledgers = after_line sets k.ledgers line;
+    pooled = same_pools sets k.ledgers line (set_asked line.kind) ∙ k.pooled;
+    desked = asked_on sets lines pools ds k.ledgers line (set_asked line.kind) within k.pooled k.desked;
+    text = left_more (answer_text (desks_answer sets pools ds line)) (output_from sets (after_line sets k.ledgers line) rest) k.text
+        (ap (λ (ls : List ScriptLine). output_from sets k.ledgers ls) next ∙ left_at sets lines pools ds line rest k.ledgers within k.pooled k.desked) (rw (← is) w);
+  }
 
--- a front of its output line was written
-pub played_front : (sets lines : ℕ) (pools : List Pool) (ds : List Desk) (line : ScriptLine) (left rest : List ScriptLine) (old now new : Option (List ℕ)) (whole : List ℕ)
-    → line.party < 256 → left ≡ line ∷ rest → TakesFront now new (line_at sets pools ds line) → IsPlayed sets lines pools ds left old now whole → TakesFront old new whole
-played_front sets lines pools ds line left rest old now new whole within next f k =
-    left_front old now new (output_from sets k.ledgers left) (line_at sets pools ds line) (output_from sets (after_line sets k.ledgers line) rest) whole k.text f
-    (ap (λ (ls : List ScriptLine). output_from sets k.ledgers ls) next ∙ left_at sets lines pools ds line rest k.ledgers within k.pooled k.desked)
-
-told_none : (held : Option (List ℕ)) → held ≡ told_with held []
-told_none None = refl
-told_none (Some held) = ap Some (sym (append-nil held))
+  -- the writing of its output line failed
+  pub played_front : {e : WriteFailed} (answer : Answer) (fault : WriteFailed) → line.party < 256 → left ≡ line ∷ rest → answer ≡ desks_answer sets pools ds line → Wrote held faults now new (answer_text answer) (Err e)
+      → IsPlayed held faults sets lines pools ds left old now whole → Wrote held faults old new whole (Err fault)
+  played_front answer fault within next is w k =
+      left_over (answer_text (desks_answer sets pools ds line)) (output_from sets (after_line sets k.ledgers line) rest) fault k.text
+      (ap (λ (ls : List ScriptLine). output_from sets k.ledgers ls) next ∙ left_at sets lines pools ds line rest k.ledgers within k.pooled k.desked) (rw (← is) w)
 
 -- the ledgers begin with the pools
 pub opened_pools : (files : List OptionsFile) (pools : List Pool) → map (λ (l : Ledger). l.pool) (opened_all pools files) ≡ pools
 opened_pools files [] = refl
 opened_pools files (pool ∷ pools) = ap (λ (ps : List Pool). pool ∷ ps) (opened_pools files pools)
 
--- a script that begins
-pub begins : (files : List OptionsFile) (pools : List Pool) (ds : List Desk) (lines : List ScriptLine) (held : Option (List ℕ)) → ds ≡ map (desk_of files) pools
-    → IsPlayed (length files) 0 pools ds lines held held (output_of pools files lines)
-begins files pools ds lines held is = record {
-  ledgers = opened_all pools files;
-  pooled = opened_pools files pools;
-  desked = subst (λ (desks : List Desk). AreDesks (length files) 0 desks (opened_all pools files)) (sym is) (desks_opened files pools);
-  text = record { done = []; written = told_none held; all = refl };
-}
+module _ {S : Type 0} (held : S → Option (List ℕ)) (faults : S → ℕ) where
+  -- a script that begins
+  pub begins : (files : List OptionsFile) (pools : List Pool) (ds : List Desk) (lines : List ScriptLine) (now : S) → ds ≡ map (desk_of files) pools
+      → IsPlayed held faults (length files) 0 pools ds lines now now (output_of pools files lines)
+  begins files pools ds lines now is = record {
+    ledgers = opened_all pools files;
+    pooled = opened_pools files pools;
+    desked = subst (λ (desks : List Desk). AreDesks (length files) 0 desks (opened_all pools files)) (sym is) (desks_opened files pools);
+    text = all_left now (output_of pools files lines);
+  }
 
--- the desks are ready for a line
-pub ready_then : (sets lines : ℕ) (pools : List Pool) (ds : List Desk) (left : List ScriptLine) (old now : Option (List ℕ)) (whole : List ℕ) → lines < 2 ^ 64 - 1
-    → IsPlayed sets lines pools ds left old now whole → list_all (is_ready sets) ds ≡ true
-ready_then sets lines pools ds left old now whole h k = are_ready sets lines ds k.ledgers h k.desked
+  -- the desks are ready for a line
+  pub ready_then : (sets lines : ℕ) (pools : List Pool) (ds : List Desk) (left : List ScriptLine) (old now : S) (whole : List ℕ) → lines < 2 ^ 64 - 1
+      → IsPlayed held faults sets lines pools ds left old now whole → list_all (is_ready sets) ds ≡ true
+  ready_then sets lines pools ds left old now whole h k = are_ready sets lines ds k.ledgers h k.desked
 
--- and as many as the pools
-pub many_then : (sets lines : ℕ) (pools : List Pool) (ds : List Desk) (left : List ScriptLine) (old now : Option (List ℕ)) (whole : List ℕ)
-    → IsPlayed sets lines pools ds left old now whole → length pools ≡ length ds
-many_then sets lines pools ds left old now whole k = as_many sets lines pools ds k.ledgers k.pooled k.desked
+  -- and as many as the pools
+  pub many_then : (sets lines : ℕ) (pools : List Pool) (ds : List Desk) (left : List ScriptLine) (old now : S) (whole : List ℕ)
+      → IsPlayed held faults sets lines pools ds left old now whole → length pools ≡ length ds
+  many_then sets lines pools ds left old now whole k = as_many sets lines pools ds k.ledgers k.pooled k.desked
 
 -- the line at a place, and those behind it
 pub next_line : (lines : List ScriptLine) (i : ℕ) (line : ScriptLine) → i < length lines → line ≡ get_or lines i line → drop i lines ≡ line ∷ drop (i + 1) lines

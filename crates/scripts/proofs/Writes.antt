@@ -1,33 +1,29 @@
-use Rattle.std.proofs.Common.{◌≡◌, ℕ, ◌+◌, List, ◌++◌, length, take, Option, None, Some, Result, Ok, Err, refl, sym, ap, ◌∙◌, append_assoc, arith}
-use Rattle.std.proofs.Math.Seq.{take-append-add}
-use Rattle.std.proofs.lemmas.List.{take-append-le, length-append}
-use Rattle.std.specs.Result.{OnErr}
-use Rattle.outside.specs.Told.{TakesFront, told_with}
+use Rattle.std.proofs.Common.{◌≡◌, ℕ, List, [], ◌++◌, Option, Ok, Err, refl, sym, ap, ◌∙◌, append_assoc, arith}
+use Rattle.outside.specs.Told.{Wrote, told_with}
+use Rattle.outside.specs.declared.sink.WriteFailed.{WriteFailed}
+use Rattle.outside.proofs.Told.{front_within, told_none, told_twice}
 use Rattle.scripts.specs.Written.{IsLeft}
 
-told_twice : (held : Option (List ℕ)) (a b : List ℕ) → told_with (told_with held a) b ≡ told_with held (a ++ b)
-told_twice None a b = refl
-told_twice (Some held) a b = ap Some (append_assoc held a b)
+module _ {S : Type 0} {held : S → Option (List ℕ)} {faults : S → ℕ} where
+  -- nothing was written yet
+  pub all_left : (now : S) (whole : List ℕ) → IsLeft held faults now now whole whole
+  all_left now whole = record { done = []; written = told_none (held now); all = refl; steady = refl }
 
--- a piece more was written
-pub left_more : (old now new : Option (List ℕ)) (left piece more whole : List ℕ) → IsLeft old now left whole → new ≡ told_with now piece → left ≡ piece ++ more → IsLeft old new more whole
-left_more old now new left piece more whole k w e = record {
-  done = k.done ++ piece;
-  written = w ∙ (ap (λ (h : Option (List ℕ)). told_with h piece) k.written ∙ told_twice old k.done piece);
-  all = append_assoc k.done piece more ∙ (ap (λ (l : List ℕ). k.done ++ l) (sym e) ∙ k.all);
-}
+  -- a piece more was written
+  pub left_more : {old now new : S} {left whole : List ℕ} {u : Unit {0}} (piece more : List ℕ) → IsLeft held faults old now left whole → left ≡ piece ++ more → Wrote held faults now new piece (Ok u) → IsLeft held faults old new more whole
+  left_more piece more k e w = record {
+    done = k.done ++ piece;
+    written = w.ok ∙ (ap (λ (h : Option (List ℕ)). told_with h piece) k.written ∙ told_twice (held _) k.done piece);
+    all = append_assoc k.done piece more ∙ (ap (λ (l : List ℕ). k.done ++ l) (sym e) ∙ k.all);
+    steady = w.steady ∙ k.steady;
+  }
 
--- a front of the piece was written
-pub left_front : (old now new : Option (List ℕ)) (left piece more whole : List ℕ) → IsLeft old now left whole → TakesFront now new piece → left ≡ piece ++ more → TakesFront old new whole
-left_front old now new left piece more whole k f e =
-    let text : whole ≡ k.done ++ (piece ++ more) = sym k.all ∙ ap (λ (l : List ℕ). k.done ++ l) e in
-    let front : take (length k.done + f.0) whole ≡ k.done ++ take f.0 piece =
-    ap (take (length k.done + f.0)) text ∙ (take-append-add k.done (piece ++ more) f.0 ∙ ap (λ (l : List ℕ). k.done ++ l) (take-append-le f.0 piece more f.1)) in (
-      length k.done + f.0,
-      rw text (omega (arith, length-append k.done (piece ++ more), length-append piece more, f.1)),
-      f.2 ∙ (ap (λ (h : Option (List ℕ)). told_with h (take f.0 piece)) k.written ∙ (told_twice old k.done (take f.0 piece) ∙ ap (told_with old) (sym front))),
-    )
-
-pub on_err : {T E : Type 0} {P : Type 0} (r : Result T E) → P → OnErr r P
-on_err (Ok x) p = tt
-on_err (Err e) p = p
+  -- the writing of the piece failed, and so does that of the whole
+  pub left_over : {old now new : S} {left whole : List ℕ} {e : WriteFailed} (piece more : List ℕ) (fault : WriteFailed) → IsLeft held faults old now left whole → left ≡ piece ++ more → Wrote held faults now new piece (Err e) → Wrote held faults old new whole (Err fault)
+  left_over piece more fault k e w = record {
+    ok = tt;
+    err = front_within (held _) (held _) (held _) k.done piece more _ k.written w.err (ap (λ (l : List ℕ). k.done ++ l) (sym e) ∙ k.all);
+    failed = rw (← k.steady) w.failed;
+    steady = tt;
+    later = omega (arith, k.steady, w.later);
+  }

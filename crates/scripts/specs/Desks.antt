@@ -1,10 +1,9 @@
-use Rattle.std.specs.Prelude.{ℕ, ◌+◌, ◌-◌, ◌%◌, ◌^◌, ◌<◌, Bool, false, ◌&&◌, ◌||◌, ◌==◌, nat_lt, if◌then◌else◌, List, [], ◌∷◌, ◌++◌, length, map, replicate, Option, None, Some, codes, slice_get, slice_set, unwrap_or}
+use Rattle.std.specs.Prelude.{ℕ, ◌+◌, ◌-◌, ◌%◌, ◌^◌, ◌<◌, Bool, false, ◌&&◌, ◌||◌, ◌==◌, nat_lt, if◌then◌else◌, List, length, map, replicate, Option, None, Some, slice_get, slice_set, unwrap_or}
 use Rattle.std.specs.List.{position_from}
 use Rattle.feature_lines.specs.Route.{route}
 use Rattle.feature_lines.specs.declared.pool.Pool.{Pool}
 use Rattle.feature_lines.specs.declared.route.Found.{Found}
 use Rattle.feature_lines.specs.declared.route.Found.TheVariants.{Pool as At, Unknown, Expired}
-use Rattle.lic_types.specs.Days.{day_text}
 use Rattle.lic_types.specs.Groups.{same_name}
 use Rattle.lic_types.specs.declared.version.Version.{Version}
 use Rattle.options_machine.specs.Own.{brings_seat, is_of_holding, is_of_queueing}
@@ -14,7 +13,9 @@ use Rattle.options_machine.specs.declared.reply.Reply.{Reply}
 use Rattle.options_text.specs.Options.{OptionsFile}
 use Rattle.policy.specs.Pools.{rules_of}
 use Rattle.script_text.specs.declared.line.ScriptLine.{ScriptLine}
-use Rattle.scripts.specs.Script.{changed_at, found_or, reply_line, request_of, set_line}
+use Rattle.scripts.specs.Script.{changed_at, found_or, request_of, set_answer}
+use Rattle.scripts.specs.declared.answers.Answer.{Answer}
+use Rattle.scripts.specs.declared.answers.Answer.TheVariants as answers
 use Rattle.scripts.specs.declared.desk.Desk.{Desk}
 
 -- the desk of a pool before the first line, by the rules of these options files
@@ -84,16 +85,16 @@ desks_sent desks line (At at) = changed_at at (entered_at line) desks
 desks_sent desks line Unknown = desks
 desks_sent desks line (Expired day) = desks
 
--- the output line of the entry that a line makes there
-abbrev pub desk_line : ScriptLine → Option Desk → List ℕ
-desk_line line None = []
-desk_line line (Some desk) = reply_line (answer_at line desk).0 desk.entries
+-- the answer of the entry that a line makes there
+abbrev pub desk_answer : ScriptLine → Option Desk → Answer
+desk_answer line None = answers.Unknown
+desk_answer line (Some desk) = answers.Entry (answer_at line desk).0 desk.entries
 
--- the output line of a line that went there
-abbrev pub line_sent : List Desk → ScriptLine → Found → List ℕ
-line_sent desks line (At at) = desk_line line (slice_get desks at)
-line_sent desks line Unknown = codes "UNKNOWN\n"
-line_sent desks line (Expired day) = codes "EXPIRED " ++ day_text day ++ 10 ∷ []
+-- what a line is answered that went there
+abbrev pub answer_there : List Desk → ScriptLine → Found → Answer
+answer_there desks line (At at) = desk_answer line (slice_get desks at)
+answer_there desks line Unknown = answers.Unknown
+answer_there desks line (Expired day) = answers.Expired day
 
 -- the desks after a line that asks for this rule set, where there are so many
 abbrev pub desks_reread : ℕ → List Desk → ScriptLine → ℕ → List Desk
@@ -112,13 +113,13 @@ desks_asked sets pools desks line (Some n) = desks_reread sets desks line n
 abbrev pub desks_after : ℕ → List Pool → List Desk → ScriptLine → List Desk
 desks_after sets pools desks line = desks_asked sets pools desks line (set_asked line.kind)
 
-abbrev pub line_asked_at : ℕ → List Pool → List Desk → ScriptLine → Option ℕ → List ℕ
-line_asked_at sets pools desks line None = line_sent desks line (sent_by pools desks line line.feature)
-line_asked_at sets pools desks line (Some n) = set_line sets n
+abbrev pub answer_asked : ℕ → List Pool → List Desk → ScriptLine → Option ℕ → Answer
+answer_asked sets pools desks line None = answer_there desks line (sent_by pools desks line line.feature)
+answer_asked sets pools desks line (Some n) = set_answer sets n
 
--- the output line of a line
-abbrev pub line_at : ℕ → List Pool → List Desk → ScriptLine → List ℕ
-line_at sets pools desks line = line_asked_at sets pools desks line (set_asked line.kind)
+-- what a line is answered
+abbrev pub desks_answer : ℕ → List Pool → List Desk → ScriptLine → Answer
+desks_answer sets pools desks line = answer_asked sets pools desks line (set_asked line.kind)
 
 -- whether a desk can take one entry more, where there are so many rule sets
 abbrev pub is_ready : ℕ → Desk → Bool

@@ -15,8 +15,9 @@ use Rattle.lic_types.specs.declared.client.RuleLine.{RuleLine}
 use Rattle.std.specs.List.Sorted.{IsStrictlyIncreasing}
 use Rattle.script_text.specs.Fits.{is_fit}
 use Rattle.script_text.specs.declared.line.ScriptLine.{ScriptLine}
+use Rattle.scripts.specs.Answers.{answer_text, reply_line}
 use Rattle.scripts.specs.Ledgers.{Ledger, opened_all}
-use Rattle.scripts.specs.Script.{after_line, ledgers_of, reply_line, sent, sent_line}
+use Rattle.scripts.specs.Script.{after_line, ledgers_of, sent, sent_answer}
 
 -- the entries of each ledger are a run of its rule sets
 abbrev pub AreRuns : List Ledger → Type 0
@@ -64,7 +65,7 @@ IsAnswered whole line (Expired day) = Unit {0}
 
 -- the same of a script line that asks for no rule set
 abbrev pub AnswersLine : List Ledger → List Ledger → ScriptLine → Option ℕ → Type 0
-AnswersLine whole ledgers line None = IsAnswered whole (sent_line ledgers line (sent ledgers line line.feature)) (sent ledgers line line.feature)
+AnswersLine whole ledgers line None = IsAnswered whole (answer_text (sent_answer ledgers line (sent ledgers line line.feature))) (sent ledgers line line.feature)
 AnswersLine whole ledgers line (Some n) = Unit {0}
 
 -- the output line of each of these script lines that goes to a pool is the reply of an entry of the whole histories

@@ -29,8 +29,8 @@ AreDesks sets lines (desk ∷ desks) [] = ⊥
 AreDesks sets lines (desk ∷ desks) (ledger ∷ ledgers) = IsDesk sets lines desk ledger × AreDesks sets lines desks ledgers
 
 -- where a script stands after so many lines: the ledgers so far, the desks, and what is left to write
-pub record IsPlayed (sets lines : ℕ) (pools : List Pool) (desks : List Desk) (left : List ScriptLine) (old now : Option (List ℕ)) (whole : List ℕ) : Type 0 where
+pub record IsPlayed {S : Type 0} (held : S → Option (List ℕ)) (faults : S → ℕ) (sets lines : ℕ) (pools : List Pool) (desks : List Desk) (left : List ScriptLine) (old now : S) (whole : List ℕ) : Type 0 where
   pub ledgers : List Ledger
   pub pooled : map (λ (l : Ledger). l.pool) ledgers ≡ pools
   pub desked : AreDesks sets lines desks ledgers
-  pub text : IsLeft old now (output_from sets ledgers left) whole
+  pub text : IsLeft held faults old now (output_from sets ledgers left) whole

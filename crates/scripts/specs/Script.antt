@@ -1,10 +1,9 @@
-use Rattle.std.specs.Prelude.{ℕ, zero, suc, Bool, ◌&&◌, ◌||◌, nat_lt, if◌then◌else◌, List, [], ◌∷◌, ◌++◌, length, map, Option, None, Some, codes, decimal, slice_get}
+use Rattle.std.specs.Prelude.{ℕ, zero, suc, Bool, ◌&&◌, ◌||◌, nat_lt, if◌then◌else◌, List, [], ◌∷◌, ◌++◌, length, map, Option, None, Some, slice_get}
 use Rattle.std.specs.List.{position_from}
 use Rattle.feature_lines.specs.Route.{route}
 use Rattle.feature_lines.specs.declared.pool.Pool.{Pool}
 use Rattle.feature_lines.specs.declared.route.Found.{Found}
 use Rattle.feature_lines.specs.declared.route.Found.TheVariants.{Pool as At, Unknown, Expired}
-use Rattle.lic_types.specs.Days.{day_text}
 use Rattle.lic_types.specs.Groups.{same_name}
 use Rattle.lic_types.specs.declared.version.Version.{Version}
 use Rattle.options_machine.specs.Own.{holds, queues}
@@ -13,12 +12,13 @@ use Rattle.options_machine.specs.Run.{after}
 use Rattle.options_machine.specs.Settle.{moved}
 use Rattle.options_machine.specs.Step.{set_asked, step}
 use Rattle.options_machine.specs.declared.reply.Entry.{Entry}
-use Rattle.options_machine.specs.declared.reply.Reply.{Reply}
 use Rattle.options_machine.specs.declared.reply.Request.{Request}
 use Rattle.options_text.specs.Options.{OptionsFile}
-use Rattle.reply_words.specs.Words.{reply_text}
 use Rattle.script_text.specs.declared.line.ScriptLine.{ScriptLine}
+use Rattle.scripts.specs.Answers.{answer_text}
 use Rattle.scripts.specs.Ledgers.{Ledger, opened_all}
+use Rattle.scripts.specs.declared.answers.Answer.{Answer}
+use Rattle.scripts.specs.declared.answers.Answer.TheVariants as answers
 
 -- the request of a line
 abbrev pub request_of : ScriptLine → Request
@@ -78,32 +78,28 @@ after_asked sets ledgers line (Some n) = if nat_lt n sets then map (entered line
 abbrev pub after_line : ℕ → List Ledger → ScriptLine → List Ledger
 after_line sets ledgers line = after_asked sets ledgers line (set_asked line.kind)
 
--- the output line of a reply: its words, and the place of its entry
-abbrev pub reply_line : Reply → ℕ → List ℕ
-reply_line reply place = reply_text reply ++ codes " #" ++ decimal place ++ 10 ∷ []
+-- the answer of the entry that a line makes there; its place is the number of entries before it
+abbrev pub entry_answer : ScriptLine → Option Ledger → Answer
+entry_answer line None = answers.Unknown
+entry_answer line (Some ledger) = answers.Entry (entry_of ledger.sets ledger.run line).reply (length ledger.run)
 
--- the output line of the entry that a line makes there; its place is the number of entries before it
-abbrev pub entry_line : ScriptLine → Option Ledger → List ℕ
-entry_line line None = []
-entry_line line (Some ledger) = reply_line (entry_of ledger.sets ledger.run line).reply (length ledger.run)
+-- what a line is answered that went there
+abbrev pub sent_answer : List Ledger → ScriptLine → Found → Answer
+sent_answer ledgers line (At at) = entry_answer line (slice_get ledgers at)
+sent_answer ledgers line Unknown = answers.Unknown
+sent_answer ledgers line (Expired day) = answers.Expired day
 
--- the output line of a line that went there
-abbrev pub sent_line : List Ledger → ScriptLine → Found → List ℕ
-sent_line ledgers line (At at) = entry_line line (slice_get ledgers at)
-sent_line ledgers line Unknown = codes "UNKNOWN\n"
-sent_line ledgers line (Expired day) = codes "EXPIRED " ++ day_text day ++ 10 ∷ []
+-- what a line is answered that asks for a rule set, where there are so many
+abbrev pub set_answer : ℕ → ℕ → Answer
+set_answer sets n = if nat_lt n sets then answers.Reread n else answers.NoRules n
 
--- the output line of a line that asks for a rule set, where there are so many
-abbrev pub set_line : ℕ → ℕ → List ℕ
-set_line sets n = (if nat_lt n sets then codes "REREAD " else codes "NORULES ") ++ decimal n ++ 10 ∷ []
-
-abbrev pub line_asked : ℕ → List Ledger → ScriptLine → Option ℕ → List ℕ
-line_asked sets ledgers line None = sent_line ledgers line (sent ledgers line line.feature)
-line_asked sets ledgers line (Some n) = set_line sets n
+abbrev pub asked_answer : ℕ → List Ledger → ScriptLine → Option ℕ → Answer
+asked_answer sets ledgers line None = sent_answer ledgers line (sent ledgers line line.feature)
+asked_answer sets ledgers line (Some n) = set_answer sets n
 
 -- the output line of a script line
 abbrev pub output_line : ℕ → List Ledger → ScriptLine → List ℕ
-output_line sets ledgers line = line_asked sets ledgers line (set_asked line.kind)
+output_line sets ledgers line = answer_text (asked_answer sets ledgers line (set_asked line.kind))
 
 -- the output lines of script lines, one for each
 abbrev pub output_from : ℕ → List Ledger → List ScriptLine → List ℕ

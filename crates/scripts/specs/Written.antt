@@ -1,8 +1,9 @@
 use Rattle.std.specs.Prelude.{◌≡◌, ℕ, List, ◌++◌, Option}
 use Rattle.outside.specs.Told.{told_with}
 
--- of a whole text a front was written, and this is left
-pub record IsLeft (old now : Option (List ℕ)) (left whole : List ℕ) : Type 0 where
+-- of a whole text a front was written to a sink, where no write failed, and this is left
+pub record IsLeft {S : Type 0} (held : S → Option (List ℕ)) (faults : S → ℕ) (old now : S) (left whole : List ℕ) : Type 0 where
   pub done : List ℕ
-  pub written : now ≡ told_with old done
+  pub written : held now ≡ told_with (held old) done
   pub all : done ++ left ≡ whole
+  pub steady : faults now ≡ faults old

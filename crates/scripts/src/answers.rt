@@ -1,14 +1,29 @@
-ghost use Rattle.std.specs.Prelude.{◌≡◌, ◌+◌, ◌≤◌, ◌++◌, ◌∷◌, [], OnOk, OnErr, codes, decimal, length, take};
+ghost use Rattle.std.specs.Prelude.{◌≡◌, ◌≤◌, ◌++◌, ◌∷◌, [], codes, decimal, length, take};
 ghost use Rattle.lic_types.specs.Days.{day_text};
-ghost use Rattle.outside.specs.Told.{HasRisen, TakesFront, told_with};
-ghost use Rattle.scripts.specs.Script.{reply_line, set_line};
+ghost use Rattle.outside.specs.Told.{Wrote};
+ghost use Rattle.scripts.specs.Answers.{answer_text, reply_line};
 
 use lic_types::Day;
 use options_machine::Reply;
 use outside::{Sink, WriteFailed};
 use reply_words::{put, put_number, put_reply};
 
-/// Writes the output line of a reply into a room, and gives how many bytes it takes.
+/// What a script line is answered.
+#[derive(Clone, Copy, Debug, PartialEq, Eq)]
+pub(crate) enum Answer {
+    /// The reply of the entry that it made at a pool, and the place of that entry there.
+    Entry(Reply, u64),
+    /// No pool would do for it.
+    Unknown,
+    /// All pools that would do have expired, the first of them at the end of this day.
+    Expired(Day),
+    /// It asked for the rule set of this number, and there is one.
+    Reread(u32),
+    /// It asked for the rule set of this number, and there is none.
+    NoRules(u32),
+}
+
+/// Writes the output line of a reply, with the place of its entry, into a room, and gives how many bytes it takes.
 fn put_reply_line(reply: &Reply, place: u64, room: &mut [u8; 256]) -> usize
     ensures place { result ≤ 256 }
     ensures written { take result room.new ≡ reply_line reply.now place }
@@ -21,8 +36,8 @@ fn put_reply_line(reply: &Reply, place: u64, room: &mut [u8; 256]) -> usize
 
 /// Writes the output line of a line whose pools have all expired, the first of them at the end of this day, into a room,
 /// and gives how many bytes it takes.
-fn put_expired_line(day: &Day, room: &mut [u8; 32]) -> usize
-    ensures place { result ≤ 32 }
+fn put_expired_line(day: &Day, room: &mut [u8; 256]) -> usize
+    ensures place { result ≤ 256 }
     ensures written { take result room.new ≡ codes "EXPIRED " ++ day_text day.now ++ 10 ∷ [] }
 {
     let mut text = [0u8; 16];
@@ -32,60 +47,36 @@ fn put_expired_line(day: &Day, room: &mut [u8; 32]) -> usize
     put(room, at, b"\n")
 }
 
-/// Writes the output line of a line that asks for a rule set, where there are so many, into a room, and gives how many
-/// bytes it takes.
-fn put_set_line(sets: usize, set: u32, room: &mut [u8; 32]) -> usize
-    ensures place { result ≤ 32 }
-    ensures written { take result room.new ≡ set_line sets set }
+/// Writes a line of a word, with its blank, and a number into a room, and gives how many bytes it takes.
+fn put_number_line(word: &[u8], number: u32, room: &mut [u8; 256]) -> usize
+    requires { length word.now ≤ 16 }
+    ensures place { result ≤ 256 }
+    ensures written { take result room.new ≡ word.now ++ decimal number ++ 10 ∷ [] }
 {
-    let at = if (set as usize) < sets {
-        put(room, 0, b"REREAD ")
-    } else {
-        put(room, 0, b"NORULES ")
-    };
-    let at = put_number(room, at, u64::from(set));
+    let at = put(room, 0, word);
+    let at = put_number(room, at, u64::from(number));
     put(room, at, b"\n")
 }
 
-/// Writes the output line of a reply to a sink.
-pub(crate) fn write_reply_line<O: Sink>(
-    out: &mut O,
-    reply: &Reply,
-    place: u64,
-) -> Result<(), WriteFailed>
-    ensures ok { OnOk result (O.held out.new ≡ told_with (O.held out.old) (reply_line reply.now place)) }
-    ensures err { OnErr result (TakesFront (O.held out.old) (O.held out.new) (reply_line reply.now place)) }
-    ensures failed { OnErr result (HasRisen (O.faults out.old) (O.faults out.new)) }
-    ensures steady { OnOk result (O.faults out.new ≡ O.faults out.old) }
-    ensures later { O.faults out.old ≤ O.faults out.new }
+/// Writes the output line of an answer into a room, and gives how many bytes it takes.
+fn put_answer(answer: &Answer, room: &mut [u8; 256]) -> usize
+    ensures place { result ≤ 256 }
+    ensures written { take result room.new ≡ answer_text answer.now }
+{
+    match answer {
+        Answer::Entry(reply, place) => put_reply_line(reply, *place, room),
+        Answer::Unknown => put(room, 0, b"UNKNOWN\n"),
+        Answer::Expired(day) => put_expired_line(day, room),
+        Answer::Reread(set) => put_number_line(b"REREAD ", *set, room),
+        Answer::NoRules(set) => put_number_line(b"NORULES ", *set, room),
+    }
+}
+
+/// Writes the output line of an answer to a sink.
+pub(crate) fn write_answer<O: Sink>(out: &mut O, answer: &Answer) -> Result<(), WriteFailed>
+    ensures { Wrote O.held O.faults out.old out.new (answer_text answer.now) result }
 {
     let mut room = [0u8; 256];
-    let len = put_reply_line(reply, place, &mut room);
-    out.write(&room[..len])
-}
-
-/// Writes the output line of a line whose pools have all expired, the first of them at the end of this day, to a sink.
-pub(crate) fn write_expired_line<O: Sink>(out: &mut O, day: &Day) -> Result<(), WriteFailed>
-    ensures ok { OnOk result (O.held out.new ≡ told_with (O.held out.old) (codes "EXPIRED " ++ day_text day.now ++ 10 ∷ [])) }
-    ensures err { OnErr result (TakesFront (O.held out.old) (O.held out.new) (codes "EXPIRED " ++ day_text day.now ++ 10 ∷ [])) }
-    ensures failed { OnErr result (HasRisen (O.faults out.old) (O.faults out.new)) }
-    ensures steady { OnOk result (O.faults out.new ≡ O.faults out.old) }
-    ensures later { O.faults out.old ≤ O.faults out.new }
-{
-    let mut room = [0u8; 32];
-    let len = put_expired_line(day, &mut room);
-    out.write(&room[..len])
-}
-
-/// Writes the output line of a line that asks for a rule set, where there are so many, to a sink.
-pub(crate) fn write_set_line<O: Sink>(out: &mut O, sets: usize, set: u32) -> Result<(), WriteFailed>
-    ensures ok { OnOk result (O.held out.new ≡ told_with (O.held out.old) (set_line sets set)) }
-    ensures err { OnErr result (TakesFront (O.held out.old) (O.held out.new) (set_line sets set)) }
-    ensures failed { OnErr result (HasRisen (O.faults out.old) (O.faults out.new)) }
-    ensures steady { OnOk result (O.faults out.new ≡ O.faults out.old) }
-    ensures later { O.faults out.old ≤ O.faults out.new }
-{
-    let mut room = [0u8; 32];
-    let len = put_set_line(sets, set, &mut room);
+    let len = put_answer(answer, &mut room);
     out.write(&room[..len])
 }

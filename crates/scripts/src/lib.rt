@@ -7,7 +7,6 @@ mod fault;
 mod histories;
 mod laws;
 mod making;
-mod nowhere;
 mod playing;
 mod reporting;
 mod routing;

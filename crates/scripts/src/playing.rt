@@ -1,14 +1,14 @@
-ghost use Rattle.std.specs.Prelude.{◌≡◌, ◌≢◌, ◌≤◌, ◌<◌, Err, None, OnErr, OnOk, Some, length, map, true};
+ghost use Rattle.std.specs.Prelude.{◌≡◌, ◌≢◌, ◌≤◌, ◌<◌, Err, None, OnOk, Some, length, map, true};
 ghost use Rattle.std.specs.List.{list_all};
 ghost use Rattle.options_machine.specs.Run.{IsBelow};
 ghost use Rattle.options_machine.specs.Step.{set_asked};
-ghost use Rattle.outside.specs.Told.{HasRisen, TakesFront, told_with};
+ghost use Rattle.outside.specs.Told.{HasRisen, TakesFront, Wrote, told_with};
 ghost use Rattle.script_text.specs.Fits.{is_fit};
-ghost use Rattle.scripts.specs.Desks.{desk_of, desks_after, desks_reread, desks_sent, entered_at, is_ready, line_at, line_sent, sent_by};
+ghost use Rattle.scripts.specs.Desks.{answer_there, desk_of, desks_after, desks_answer, desks_reread, desks_sent, entered_at, is_ready, sent_by};
 ghost use Rattle.scripts.specs.Laws.{Histories};
-ghost use Rattle.scripts.specs.Script.{output_of, set_line};
+ghost use Rattle.scripts.specs.Script.{output_of, set_answer};
 
-use crate::answers::{write_expired_line, write_reply_line, write_set_line};
+use crate::answers::{Answer, write_answer};
 use crate::desk::Desk;
 use crate::fault::PlayFault;
 use crate::histories::tell_histories;
@@ -32,102 +32,68 @@ fn enter_each(sets: usize, desks: &mut [Desk], line: &ScriptLine)
     }
 }
 
-/// Plays a line that asks for a rule set.
-fn play_reread<O: Sink>(
-    sets: usize,
-    desks: &mut [Desk],
-    line: &ScriptLine,
-    set: u32,
-    out: &mut O,
-) -> Result<(), WriteFailed>
+/// Answers a line that asks for the rule set of this number, and makes its entries where there is one.
+fn answer_reread(sets: usize, desks: &mut [Desk], line: &ScriptLine, set: u32) -> Answer
     requires party { line.now.party < 256 }
     requires asked { set_asked line.now.kind ≡ Some set }
     requires ready { list_all (is_ready sets) desks.old ≡ true }
     ensures desks { desks.new ≡ desks_reread sets desks.old line.now set }
-    ensures ok { OnOk result (O.held out.new ≡ told_with (O.held out.old) (set_line sets set)) }
-    ensures err { OnErr result (TakesFront (O.held out.old) (O.held out.new) (set_line sets set)) }
-    ensures failed { OnErr result (HasRisen (O.faults out.old) (O.faults out.new)) }
-    ensures steady { OnOk result (O.faults out.new ≡ O.faults out.old) }
-    ensures later { O.faults out.old ≤ O.faults out.new }
+    ensures answer { result ≡ set_answer sets set }
 {
     if (set as usize) < sets {
         enter_each(sets, desks, line);
+        Answer::Reread(set)
+    } else {
+        Answer::NoRules(set)
     }
-    write_set_line(out, sets, set)
 }
 
-/// Plays a line at the desk of this place.
-fn play_at<O: Sink>(
-    sets: usize,
-    desks: &mut [Desk],
-    line: &ScriptLine,
-    at: usize,
-    out: &mut O,
-) -> Result<(), WriteFailed>
+/// Makes the entry of a line at the desk of this place, and gives its answer.
+fn answer_at(sets: usize, desks: &mut [Desk], line: &ScriptLine, at: usize) -> Answer
     requires there { at < length desks.old }
     requires party { line.now.party < 256 }
     requires asked { set_asked line.now.kind ≡ None }
     requires ready { list_all (is_ready sets) desks.old ≡ true }
     ensures desks { desks.new ≡ desks_sent desks.old line.now (Found.Pool at) }
-    ensures ok { OnOk result (O.held out.new ≡ told_with (O.held out.old) (line_sent desks.old line.now (Found.Pool at))) }
-    ensures err { OnErr result (TakesFront (O.held out.old) (O.held out.new) (line_sent desks.old line.now (Found.Pool at))) }
-    ensures failed { OnErr result (HasRisen (O.faults out.old) (O.faults out.new)) }
-    ensures steady { OnOk result (O.faults out.new ≡ O.faults out.old) }
-    ensures later { O.faults out.old ≤ O.faults out.new }
+    ensures answer { result ≡ answer_there desks.old line.now (Found.Pool at) }
 {
     let desk = &mut desks[at];
     let place = desk.entries;
-    let reply = desk.enter(line);
-    write_reply_line(out, &reply, place)
+    Answer::Entry(desk.enter(line), place)
 }
 
-/// Plays a line that asks for no rule set.
-fn play_request<O: Sink>(
-    licence: &Licence,
-    sets: usize,
-    desks: &mut [Desk],
-    line: &ScriptLine,
-    out: &mut O,
-) -> Result<(), WriteFailed>
+/// Answers a line that asks for no rule set: it goes to a desk and makes its entry there, or goes nowhere.
+fn answer_request(licence: &Licence, sets: usize, desks: &mut [Desk], line: &ScriptLine) -> Answer
     requires pools { length licence.now.pools ≡ length desks.old }
     requires party { line.now.party < 256 }
     requires asked { set_asked line.now.kind ≡ None }
     requires ready { list_all (is_ready sets) desks.old ≡ true }
     ensures desks { desks.new ≡ desks_sent desks.old line.now (sent_by licence.now.pools desks.old line.now line.now.feature) }
-    ensures ok { OnOk result (O.held out.new ≡ told_with (O.held out.old) (line_sent desks.old line.now (sent_by licence.now.pools desks.old line.now line.now.feature))) }
-    ensures err { OnErr result (TakesFront (O.held out.old) (O.held out.new) (line_sent desks.old line.now (sent_by licence.now.pools desks.old line.now line.now.feature))) }
-    ensures failed { OnErr result (HasRisen (O.faults out.old) (O.faults out.new)) }
-    ensures steady { OnOk result (O.faults out.new ≡ O.faults out.old) }
-    ensures later { O.faults out.old ≤ O.faults out.new }
+    ensures answer { result ≡ answer_there desks.old line.now (sent_by licence.now.pools desks.old line.now line.now.feature) }
 {
     match find(licence, desks, line) {
-        Found::Pool(at) => play_at(sets, desks, line, at, out),
-        Found::Unknown => out.write(b"UNKNOWN\n"),
-        Found::Expired(day) => write_expired_line(out, &day),
+        Found::Pool(at) => answer_at(sets, desks, line, at),
+        Found::Unknown => Answer::Unknown,
+        Found::Expired(day) => Answer::Expired(day),
     }
 }
 
-/// Plays a line: makes its entries, and writes its output line.
-pub(crate) fn play_line<O: Sink>(
+/// Makes the entries of a line, and gives its answer.
+pub(crate) fn answer_line(
     licence: &Licence,
     sets: usize,
     desks: &mut [Desk],
     line: &ScriptLine,
-    out: &mut O,
-) -> Result<(), WriteFailed>
+) -> Answer
     requires pools { length licence.now.pools ≡ length desks.old }
     requires party { line.now.party < 256 }
     requires ready { list_all (is_ready sets) desks.old ≡ true }
     ensures desks { desks.new ≡ desks_after sets licence.now.pools desks.old line.now }
-    ensures ok { OnOk result (O.held out.new ≡ told_with (O.held out.old) (line_at sets licence.now.pools desks.old line.now)) }
-    ensures err { OnErr result (TakesFront (O.held out.old) (O.held out.new) (line_at sets licence.now.pools desks.old line.now)) }
-    ensures failed { OnErr result (HasRisen (O.faults out.old) (O.faults out.new)) }
-    ensures steady { OnOk result (O.faults out.new ≡ O.faults out.old) }
-    ensures later { O.faults out.old ≤ O.faults out.new }
+    ensures answer { result ≡ desks_answer sets licence.now.pools desks.old line.now }
 {
     match line.kind.set_asked() {
-        Some(set) => play_reread(sets, desks, line, set, out),
-        None => play_request(licence, sets, desks, line, out),
+        Some(set) => answer_reread(sets, desks, line, set),
+        None => answer_request(licence, sets, desks, line),
     }
 }
 
@@ -141,14 +107,11 @@ fn play_lines<O: Sink>(
 ) -> Result<(), WriteFailed>
     requires fit { list_all is_fit lines.now ≡ true }
     requires opened { desks.old ≡ map (desk_of options.now) licence.now.pools }
-    ensures ok { OnOk result (O.held out.new ≡ told_with (O.held out.old) (output_of licence.now.pools options.now lines.now)) }
-    ensures err { OnErr result (TakesFront (O.held out.old) (O.held out.new) (output_of licence.now.pools options.now lines.now)) }
-    ensures failed { OnErr result (HasRisen (O.faults out.old) (O.faults out.new)) }
-    ensures steady { OnOk result (O.faults out.new ≡ O.faults out.old) }
-    ensures later { O.faults out.old ≤ O.faults out.new }
+    ensures { Wrote O.held O.faults out.old out.new (output_of licence.now.pools options.now lines.now) result }
 {
     for line in lines {
-        play_line(licence, options.len(), desks, line, out)?;
+        let answer = answer_line(licence, options.len(), desks, line);
+        write_answer(out, &answer)?;
     }
     Ok(())
 }

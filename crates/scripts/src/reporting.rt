@@ -10,8 +10,7 @@ ghost use Rattle.scripts.specs.Script.{ledgers_of};
 use crate::desk::Desk;
 use crate::histories::tell_histories;
 use crate::making::make_desks;
-use crate::nowhere::Nowhere;
-use crate::playing::play_line;
+use crate::playing::answer_line;
 use feature_lines::Licence;
 use lic_types::NoMemory;
 use options_text::Options;
@@ -26,9 +25,8 @@ fn enter_lines(licence: &Licence, options: &[Options], desks: &mut [Desk], lines
     ensures desks { AreDesks (length options.now) (length lines.now) desks.new (ledgers_of licence.now.pools options.now lines.now) }
     ensures len { length desks.new ≡ length desks.old }
 {
-    let mut out = Nowhere;
     for line in lines {
-        let _ = play_line(licence, options.len(), desks, line, &mut out);
+        let _ = answer_line(licence, options.len(), desks, line);
     }
 }
 

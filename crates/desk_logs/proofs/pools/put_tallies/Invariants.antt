@@ -1,11 +1,7 @@
-use Rattle.std.proofs.Common.{◌≡◌, drop, vec_capacity}
+use Rattle.std.proofs.Common.{drop}
 use Rattle.desk_logs.specs.Gathered.{IsUnderWay}
 use Rattle.desk_logs.specs.Text.{numbered, tally_of}
 use Rattle.desk_logs.proofs.pools.put_tallies.Given as goal
 
 abbrev pub invariant-loop-pool : goal.invariant-loop-pool
-invariant-loop-pool g l = record {
-  text : IsUnderWay (g.O.Sink.held l.fn.out) (g.O.Sink.held l.out) l.fn.gathered.items l.gathered.items (numbered tally_of l.pool (drop l.pool l.tallies)) (numbered tally_of 0 l.tallies);
-  steady : g.O.Sink.faults l.out ≡ g.O.Sink.faults l.fn.out;
-  room : vec_capacity l.gathered ≡ vec_capacity l.fn.gathered;
-}
+invariant-loop-pool g l = IsUnderWay g.O.Sink.held g.O.Sink.faults l.fn.out l.out l.fn.gathered l.gathered (numbered tally_of l.pool (drop l.pool l.tallies)) (numbered tally_of 0 l.tallies)

@@ -1,17 +1,20 @@
-use Rattle.std.proofs.Common.{◌++◌}
+use Rattle.std.proofs.Common.{[], append-nil, refl}
+use Rattle.std.proofs.lemmas.Result.{err_from_is_err_and}
 use Rattle.desk_logs.specs.Text.{log_of, numbered, tally_of}
-use Rattle.desk_logs.proofs.Gathering.{both, last_front, map_err, on_err, second_front}
+use Rattle.desk_logs.proofs.Gathering.{joined, unwritten, written}
 use Rattle.desk_logs.proofs.pools.write_logs.Goals as goal
 
-pub returns-in_err-put_tallies-clause-err : goal.returns-in_err-put_tallies-clause-err
-returns-in_err-put_tallies-clause-err g c =
-    on_err c.from_residual-in_err-put_tallies.result
-    (rw c.requires.empty at (second_front _ _ _ c.args.buffer.now.items _ (numbered log_of 0 c.args.logs.now) (numbered tally_of 0 c.args.tallies.now)
-    c.in_ok-put_logs.ensures.ok c.in_err-put_tallies.ensures.err))
+pub returns-in_err-put_logs : goal.returns-in_err-put_logs
+returns-in_err-put_logs g c =
+    let p = err_from_is_err_and c.from_residual.result c.from_residual.ensures.1 in
+    rw p.1 (unwritten (numbered tally_of 0 c.args.tallies.now) p.0 c.in_err-put_logs.ensures (rw c.requires.empty refl))
 
-pub returns-clause-err : goal.returns-clause-err
-returns-clause-err g c =
-    map_err c.flush.result
-    (λ f. rw c.requires.empty at (last_front (g.O.Sink.held c.args.out.now) (g.O.Sink.held c.put_tallies.new.out) (g.O.Sink.held c.flush.new.out) c.put_tallies.new.gathered.items (c.args.buffer.now.items ++ (numbered log_of 0 c.args.logs.now ++ numbered tally_of 0 c.args.tallies.now))
-    (both _ _ _ c.args.buffer.now.items _ (numbered log_of 0 c.args.logs.now) (numbered tally_of 0 c.args.tallies.now) _ c.in_ok-put_logs.ensures.ok c.in_ok-put_tallies.ensures.ok) f))
-    c.flush.ensures.err
+pub returns-in_err-put_tallies : goal.returns-in_err-put_tallies
+returns-in_err-put_tallies g c =
+    let p = err_from_is_err_and c.from_residual-in_err-put_tallies.result c.from_residual-in_err-put_tallies.ensures.1 in
+    rw p.1 (rw c.requires.empty at (unwritten [] p.0 (joined (numbered log_of 0 c.args.logs.now) (numbered tally_of 0 c.args.tallies.now) _ c.in_ok-put_logs.ensures c.in_err-put_tallies.ensures) (append-nil _)))
+
+pub returns : goal.returns
+returns g c =
+    rw c.requires.empty at (written c.flush.result
+    (joined (numbered log_of 0 c.args.logs.now) (numbered tally_of 0 c.args.tallies.now) _ c.in_ok-put_logs.ensures c.in_ok-put_tallies.ensures) c.flush.ensures.wrote)

@@ -1,10 +1,7 @@
-use Rattle.std.proofs.Common.{◌≡◌, drop, length}
+use Rattle.std.proofs.Common.{drop, length}
 use Rattle.scripts.specs.Played.{IsPlayed}
 use Rattle.scripts.specs.Script.{output_of}
 use Rattle.scripts.proofs.playing.play_lines.Given as goal
 
 abbrev pub invariant-loop-line : goal.invariant-loop-line
-invariant-loop-line g l = record {
-  played : IsPlayed (length l.options) l.line-index l.licence.pools l.desks (drop l.line-index l.lines) (g.O.Sink.held l.fn.out) (g.O.Sink.held l.out) (output_of l.licence.pools l.options l.lines);
-  steady : g.O.Sink.faults l.out ≡ g.O.Sink.faults l.fn.out;
-}
+invariant-loop-line g l = IsPlayed g.O.Sink.held g.O.Sink.faults (length l.options) l.line-index l.licence.pools l.desks (drop l.line-index l.lines) l.fn.out l.out (output_of l.licence.pools l.options l.lines)

@@ -1,4 +1,4 @@
-use Rattle.std.proofs.Common.{◌≡◌, ◌++◌, ◌∙◌, List, ℕ, ap, length}
+use Rattle.std.proofs.Common.{◌++◌, ◌∙◌, List, ℕ, ap, length}
 use Rattle.scripts.specs.Reports.{desk_reports}
 use Rattle.scripts.specs.Script.{ledgers_of}
 use Rattle.scripts.proofs.Reported.{all_new, same_reports}
