@@ -10,7 +10,7 @@ use Rattle.options_machine.specs.Step.{set_asked, step}
 use Rattle.options_machine.proofs.Quits.{standing-snoc}
 use Rattle.options_machine.proofs.Runs.{after-snoc, run_more}
 use Rattle.script_text.specs.declared.line.ScriptLine.{ScriptLine}
-use Rattle.scripts.specs.Desks.{says_place}
+use Rattle.scripts.specs.PoolRuns.{says_place}
 use Rattle.scripts.specs.Script.{entry_of, request_of}
 use Rattle.options_machine.proofs.Moments.{moved_later, moved_within, step_again, step_now}
 

@@ -1,10 +1,11 @@
 pub mod Entries
+pub mod Follows
+pub mod GoingOn
 pub mod Places
+pub mod Reached
+pub mod Replied
 pub mod Runs
 pub mod Sets
-pub mod Stands
 pub mod Steps
-pub mod Texts
+pub mod Walks
 pub mod Writes
-pub mod Replied
-pub mod Reported

@@ -7,7 +7,7 @@ use Rattle.options_machine.specs.Own.{holds, queues, stands_for}
 use Rattle.options_machine.specs.Step.{set_asked}
 use Rattle.options_machine.specs.declared.reply.Entry.{Entry}
 use Rattle.options_machine.specs.declared.reply.Reply.{Reply}
-use Rattle.scripts.specs.Desks.{places_moved, says_place}
+use Rattle.scripts.specs.PoolRuns.{places_moved, says_place}
 use Rattle.scripts.proofs.Entries.{place_then}
 
 -- the place of one party was written

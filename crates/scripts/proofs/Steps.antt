@@ -1,11 +1,7 @@
-use Rattle.std.proofs.Common.{◌≡◌, ℕ, zero, suc, ◌+◌, ◌-◌, ◌%◌, ◌<◌, ◌^◌, if◌then◌else◌, Bool, true, false, ◌&&◌, List, [], ◌∷◌, ◌++◌, length, map, take, drop, get_or, Option, None, Some, cond, refl, sym, ap, ◌∙◌, arith, add-one, eqb, ltb, subst}
+use Rattle.std.proofs.Common.{◌≡◌, ℕ, zero, suc, ◌+◌, ◌-◌, ◌%◌, ◌<◌, ◌^◌, if◌then◌else◌, Bool, true, ◌&&◌, List, [], ◌∷◌, ◌++◌, length, map, take, drop, get_or, refl, sym, ap, ◌∙◌, arith, add-one, eqb, ltb, subst}
 use Rattle.std.proofs.Math.ListN.{set}
 use Rattle.std.proofs.lemmas.Bool.{eqb-true, ltb-true}
-use Rattle.std.specs.List.{list_all, position_from}
-use Rattle.feature_lines.specs.Route.{found_at, route, serves}
-use Rattle.feature_lines.specs.declared.pool.Pool.{Pool}
-use Rattle.lic_types.specs.declared.day.Expiry.{Expiry}
-use Rattle.lic_types.specs.declared.day.Expiry.TheVariants.{Never, On}
+use Rattle.std.specs.List.{list_all}
 use Rattle.options_machine.proofs.Counts.{and_left, and_right}
 use Rattle.options_machine.specs.Own.{brings_seat}
 use Rattle.options_machine.specs.Rules.{Rules}
@@ -15,9 +11,10 @@ use Rattle.options_machine.specs.Step.{set_asked}
 use Rattle.options_machine.specs.declared.reply.Reply.{Reply}
 use Rattle.seat_book.specs.Books.{BookWithGrants}
 use Rattle.script_text.specs.declared.line.ScriptLine.{ScriptLine}
-use Rattle.scripts.specs.Desks.{IsThere, answer_at, entered_at, is_ready, places_with}
-use Rattle.scripts.specs.Script.{changed_at, request_of}
-use Rattle.scripts.specs.declared.desk.Desk.{Desk}
+use Rattle.scripts.specs.PoolRuns.{entered_at, is_ready, places_with, served_at}
+use Rattle.scripts.specs.Script.{request_of}
+use Rattle.scripts.specs.Walk.{changed_at}
+use Rattle.scripts.specs.declared.pool_run.PoolRun.{PoolRun}
 
 same_book : (book old : BookWithGrants) (state : State) (grants : ℕ) → book.sets ≡ old.sets → book.parties ≡ old.parties → book.state ≡ state → book.grants ≡ grants
     → book ≡ record { sets = old.sets; parties = old.parties; state = state; grants = grants }
@@ -32,36 +29,15 @@ same_book book old state grants a b c d =
 abbrev pub grants_with : ℕ → Reply → ℕ
 grants_with grants reply = (grants + (if brings_seat reply then 1 else 0)) % 2 ^ 64
 
--- a desk after a step of its book
-pub entered_by : (line : ScriptLine) (d : Desk) (book : BookWithGrants) (places : List Bool) (reply : Reply) → (reply, book.state) ≡ answer_at line d → book.sets ≡ d.book.sets → book.parties ≡ d.book.parties
+-- a run after a step of its book
+pub entered_by : (line : ScriptLine) (d : PoolRun) (book : BookWithGrants) (places : List Bool) (reply : Reply) → (reply, book.state) ≡ served_at line d → book.sets ≡ d.book.sets → book.parties ≡ d.book.parties
     → book.grants ≡ grants_with d.book.grants reply → places ≡ places_with d.places line reply → record { pool = d.pool; book = book; entries = d.entries + 1; places = places } ≡ entered_at line d
 entered_by line d book places reply served sets parties counted moved =
-    let state : book.state ≡ (answer_at line d).1 = ap (λ (r : Reply × State). r.1) served in
-    let said : reply ≡ (answer_at line d).0 = ap (λ (r : Reply × State). r.0) served in
-    let f : BookWithGrants → Desk = λ b. record { pool = d.pool; book = b; entries = d.entries + 1; places = places } in
-    let g : List Bool → Desk = λ ps. record { pool = d.pool; book = record { sets = d.book.sets; parties = d.book.parties; state = (answer_at line d).1; grants = grants_with d.book.grants (answer_at line d).0 }; entries = d.entries + 1; places = ps } in
-    ap f (same_book book d.book (answer_at line d).1 (grants_with d.book.grants (answer_at line d).0) sets parties state (counted ∙ ap (grants_with d.book.grants) said)) ∙ ap g (moved ∙ ap (places_with d.places line) said)
-
-within_or : (i n at : ℕ) (b : Bool) (rest : Option ℕ) → (rest ≡ Some at → at < i + 1 + n) → cond b (Some i) rest ≡ Some at → at < i + suc n
-within_or i n at true rest h e = let same : i ≡ at = cc in omega arith
-within_or i n at false rest h e = omega (arith, h e)
-
--- the place that is found is one in the list
-pub position_within : {X : Type 0} (p : X → Bool) (i : ℕ) (xs : List X) (at : ℕ) → position_from p i xs ≡ Some at → at < i + length xs
-position_within p i [] at e = absurd cc
-position_within p i (x ∷ xs) at e = within_or i (length xs) at (p x) (position_from p (i + 1) xs) (position_within p (i + 1) xs at) e
-
-found_there : (n : ℕ) (found : Option ℕ) (expiry : Option Expiry) → ((at : ℕ) → found ≡ Some at → at < n) → IsThere n (found_at found expiry)
-found_there n (Some at) expiry h = h at refl
-found_there n None None h = tt
-found_there n None (Some Never) h = tt
-found_there n None (Some (On day)) h = tt
-
--- where a checkout is routed, there is a pool
-pub route_there : (pools : List Pool) (name : List ℕ) (version moment : ℕ) → IsThere (length pools) (route pools name version moment)
-route_there pools name version moment =
-    found_there (length pools) (position_from (serves name version moment) 0 pools) _
-    (λ at e. omega (arith, position_within (serves name version moment) 0 pools at e))
+    let state : book.state ≡ (served_at line d).1 = ap (λ (r : Reply × State). r.1) served in
+    let said : reply ≡ (served_at line d).0 = ap (λ (r : Reply × State). r.0) served in
+    let f : BookWithGrants → PoolRun = λ b. record { pool = d.pool; book = b; entries = d.entries + 1; places = places } in
+    let g : List Bool → PoolRun = λ ps. record { pool = d.pool; book = record { sets = d.book.sets; parties = d.book.parties; state = (served_at line d).1; grants = grants_with d.book.grants (served_at line d).0 }; entries = d.entries + 1; places = ps } in
+    ap f (same_book book d.book (served_at line d).1 (grants_with d.book.grants (served_at line d).0) sets parties state (counted ∙ ap (grants_with d.book.grants) said)) ∙ ap g (moved ∙ ap (places_with d.places line) said)
 
 -- what holds of each holds of one
 pub one_of_all : {X : Type 0} (p : X → Bool) (xs : List X) (i : ℕ) (d : X) → list_all p xs ≡ true → i < length xs → p (get_or xs i d) ≡ true
@@ -98,13 +74,13 @@ changed_more f i old now d new h is e =
     ∙ (ap (λ (x : _). set (changed_to f i old) i (f x)) (next_unchanged f i old d)
     ∙ rw add-one (next_changed f i old d h)))
 
--- what a desk that is ready has
-pub record CanTake (sets : ℕ) (line : ScriptLine) (d : Desk) : Type 0 where
+-- what a run that is ready has
+pub record CanTake (sets : ℕ) (line : ScriptLine) (d : PoolRun) : Type 0 where
   pub parties : d.book.parties ≡ 256
   pub fits : AsksForSet d.book.sets (request_of line)
   pub few : d.entries < 2 ^ 64 - 1
 
-pub can_take : (sets : ℕ) (line : ScriptLine) (d : Desk) → IsBelow (set_asked line.kind) sets → is_ready sets d ≡ true → CanTake sets line d
+pub can_take : (sets : ℕ) (line : ScriptLine) (d : PoolRun) → IsBelow (set_asked line.kind) sets → is_ready sets d ≡ true → CanTake sets line d
 can_take sets line d asks ready =
     let rest : (eqb (length d.book.sets) sets && ltb d.entries (2 ^ 64 - 1)) ≡ true = and_right (eqb d.book.parties 256) (eqb (length d.book.sets) sets && ltb d.entries (2 ^ 64 - 1)) ready in
     let many : length d.book.sets ≡ sets = eqb-true (length d.book.sets) sets (and_left (eqb (length d.book.sets) sets) (ltb d.entries (2 ^ 64 - 1)) rest) in
@@ -114,9 +90,9 @@ can_take sets line d asks ready =
       few = ltb-true d.entries (2 ^ 64 - 1) (and_right (eqb (length d.book.sets) sets) (ltb d.entries (2 ^ 64 - 1)) rest);
     }
 
--- the next desk is ready, where those before it were entered
-pub next_can_take : (sets : ℕ) (line : ScriptLine) (i : ℕ) (old now : List Desk) (d : Desk) → IsBelow (set_asked line.kind) sets → list_all (is_ready sets) old ≡ true → i < length old
+-- the next run is ready, where those before it were entered
+pub next_can_take : (sets : ℕ) (line : ScriptLine) (i : ℕ) (old now : List PoolRun) (d : PoolRun) → IsBelow (set_asked line.kind) sets → list_all (is_ready sets) old ≡ true → i < length old
     → now ≡ changed_to (entered_at line) i old → CanTake sets line (get_or now i d)
 next_can_take sets line i old now d asks ready h is =
     can_take sets line (get_or now i d) asks
-    (ap (λ (ds : List Desk). is_ready sets (get_or ds i d)) is ∙ (ap (is_ready sets) (next_unchanged (entered_at line) i old d) ∙ one_of_all (is_ready sets) old i d ready h))
+    (ap (λ (rs : List PoolRun). is_ready sets (get_or rs i d)) is ∙ (ap (is_ready sets) (next_unchanged (entered_at line) i old d) ∙ one_of_all (is_ready sets) old i d ready h))

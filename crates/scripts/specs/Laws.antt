@@ -17,7 +17,8 @@ use Rattle.script_text.specs.Fits.{is_fit}
 use Rattle.script_text.specs.declared.line.ScriptLine.{ScriptLine}
 use Rattle.scripts.specs.Answers.{answer_text, reply_line}
 use Rattle.scripts.specs.Ledgers.{Ledger, opened_all}
-use Rattle.scripts.specs.Script.{after_line, ledgers_of, sent, sent_answer}
+use Rattle.scripts.specs.Script.{ledger_walk, ledgers_of}
+use Rattle.scripts.specs.Walk.{after_line, sent, sent_answer}
 
 -- the entries of each ledger are a run of its rule sets
 abbrev pub AreRuns : List Ledger → Type 0
@@ -65,13 +66,13 @@ IsAnswered whole line (Expired day) = Unit {0}
 
 -- the same of a script line that asks for no rule set
 abbrev pub AnswersLine : List Ledger → List Ledger → ScriptLine → Option ℕ → Type 0
-AnswersLine whole ledgers line None = IsAnswered whole (answer_text (sent_answer ledgers line (sent ledgers line line.feature))) (sent ledgers line line.feature)
+AnswersLine whole ledgers line None = IsAnswered whole (answer_text (sent_answer ledger_walk ledgers line (sent ledger_walk ledgers line line.feature))) (sent ledger_walk ledgers line line.feature)
 AnswersLine whole ledgers line (Some n) = Unit {0}
 
 -- the output line of each of these script lines that goes to a pool is the reply of an entry of the whole histories
 abbrev pub AreAnswered : ℕ → List Ledger → List Ledger → List ScriptLine → Type 0
 AreAnswered sets whole ledgers [] = Unit {0}
-AreAnswered sets whole ledgers (line ∷ lines) = AnswersLine whole ledgers line (set_asked line.kind) × AreAnswered sets whole (after_line sets ledgers line) lines
+AreAnswered sets whole ledgers (line ∷ lines) = AnswersLine whole ledgers line (set_asked line.kind) × AreAnswered sets whole (after_line ledger_walk sets ledgers line) lines
 
 -- the output lines of a script are replies of entries of the histories that it makes
 abbrev pub LinesAreReplies : Type 0

@@ -1,8 +1,9 @@
 pub mod Answers
-pub mod Desks
 pub mod Laws
 pub mod Ledgers
 pub mod Played
+pub mod PoolRuns
 pub mod Reports
 pub mod Script
+pub mod Walk
 pub mod Written

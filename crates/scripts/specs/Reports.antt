@@ -6,7 +6,7 @@ use Rattle.options_text.specs.Options.{OptionsFile}
 use Rattle.script_text.specs.declared.line.ScriptLine.{ScriptLine}
 use Rattle.scripts.specs.Ledgers.{Ledger}
 use Rattle.scripts.specs.Script.{ledgers_of}
-use Rattle.scripts.specs.declared.desk.Desk.{Desk}
+use Rattle.scripts.specs.declared.pool_run.PoolRun.{PoolRun}
 use Rattle.stat_report.specs.Report.{report_text}
 
 -- the reports of the pools of these ledgers, of which the first has this number: each in the state that its entries leave
@@ -18,7 +18,7 @@ reports at (ledger ∷ ledgers) = report_text at ledger.pool ledger.sets (after 
 abbrev pub report_of : List Pool → List OptionsFile → List ScriptLine → List ℕ
 report_of pools files lines = reports 0 (ledgers_of pools files lines)
 
--- the reports of desks, of which the first has this number
-abbrev pub desk_reports : ℕ → List Desk → List ℕ
-desk_reports at [] = []
-desk_reports at (desk ∷ desks) = report_text at desk.pool desk.book.sets desk.book.state ++ desk_reports (at + 1) desks
+-- the reports of runs, of which the first has this number
+abbrev pub run_reports : ℕ → List PoolRun → List ℕ
+run_reports at [] = []
+run_reports at (run ∷ runs) = report_text at run.pool run.book.sets run.book.state ++ run_reports (at + 1) runs

@@ -2,12 +2,12 @@
 #![tactic(auto)]
 
 mod answers;
-mod desk;
 mod fault;
 mod histories;
 mod laws;
 mod making;
 mod playing;
+mod pool_run;
 mod reporting;
 mod routing;
 

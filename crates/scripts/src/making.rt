@@ -2,9 +2,9 @@ ghost use Rattle.std.specs.Prelude.{◌≡◌, ◌<◌, ◌≤◌, ℕ, IfOk, le
 ghost use Rattle.options_machine.specs.Rules.{IsSound};
 ghost use Rattle.options_machine.specs.State.{set_at};
 ghost use Rattle.policy.specs.Pools.{rules_of};
-ghost use Rattle.scripts.specs.Desks.{desk_of};
+ghost use Rattle.scripts.specs.PoolRuns.{run_of};
 
-use crate::desk::{Desk, PARTIES};
+use crate::pool_run::{PARTIES, PoolRun};
 use feature_lines::Pool;
 use lic_types::NoMemory;
 use options_text::Options;
@@ -24,14 +24,14 @@ fn sets_of(alloc: Global, pool: &Pool, options: &[Options]) -> Result<Vec<DeskRu
     Ok(sets)
 }
 
-fn make_desk(alloc: Global, pool: &Pool, options: &[Options]) -> Result<Desk, NoMemory>
+fn make_run(alloc: Global, pool: &Pool, options: &[Options]) -> Result<PoolRun, NoMemory>
     requires some { 0 < length options.now }
     requires few { length options.now ≤ 4 }
-    ensures { IfOk result (λ desk. desk ≡ desk_of options.now pool.now) }
+    ensures { IfOk result (λ run. run ≡ run_of options.now pool.now) }
 {
     let sets = sets_of(alloc, pool, options)?;
     let book = Book::make_many(alloc, sets, PARTIES)?;
-    Ok(Desk {
+    Ok(PoolRun {
         pool: *pool,
         book,
         entries: 0,
@@ -39,20 +39,20 @@ fn make_desk(alloc: Global, pool: &Pool, options: &[Options]) -> Result<Desk, No
     })
 }
 
-/// One desk for each pool, in their order, with one rule set for each options file. All memory for a script is taken
+/// One run for each pool, in their order, with one rule set for each options file. All memory for a script is taken
 /// here.
-pub(crate) fn make_desks(
+pub(crate) fn make_runs(
     alloc: Global,
     pools: &[Pool],
     options: &[Options],
-) -> Result<Vec<Desk>, NoMemory>
+) -> Result<Vec<PoolRun>, NoMemory>
     requires some { 0 < length options.now }
     requires few { length options.now ≤ 4 }
-    ensures { IfOk result (λ desks. desks.items ≡ map (desk_of options.now) pools.now) }
+    ensures { IfOk result (λ runs. runs.items ≡ map (run_of options.now) pools.now) }
 {
-    let mut desks = Vec::new(alloc);
+    let mut runs = Vec::new(alloc);
     for pool in pools {
-        desks.push(make_desk(alloc, pool, options)?)?;
+        runs.push(make_run(alloc, pool, options)?)?;
     }
-    Ok(desks)
+    Ok(runs)
 }

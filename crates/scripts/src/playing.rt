@@ -4,15 +4,16 @@ ghost use Rattle.options_machine.specs.Run.{IsBelow};
 ghost use Rattle.options_machine.specs.Step.{set_asked};
 ghost use Rattle.outside.specs.Told.{HasRisen, TakesFront, Wrote, told_with};
 ghost use Rattle.script_text.specs.Fits.{is_fit};
-ghost use Rattle.scripts.specs.Desks.{answer_there, desk_of, desks_after, desks_answer, desks_reread, desks_sent, entered_at, is_ready, sent_by};
 ghost use Rattle.scripts.specs.Laws.{Histories};
-ghost use Rattle.scripts.specs.Script.{output_of, set_answer};
+ghost use Rattle.scripts.specs.PoolRuns.{entered_at, is_ready, pools_of, run_of, run_walk};
+ghost use Rattle.scripts.specs.Script.{output_of};
+ghost use Rattle.scripts.specs.Walk.{after_asked, after_line, after_sent, asked_answer, line_answer, sent_answer, set_answer};
 
 use crate::answers::{Answer, write_answer};
-use crate::desk::Desk;
 use crate::fault::PlayFault;
 use crate::histories::tell_histories;
-use crate::making::make_desks;
+use crate::making::make_runs;
+use crate::pool_run::PoolRun;
 use crate::routing::find;
 use feature_lines::{Found, Licence};
 use options_text::Options;
@@ -20,59 +21,59 @@ use outside::{Sink, WriteFailed};
 use script_text::ScriptLine;
 use std::alloc::Global;
 
-/// Makes the entry of a line at each desk, in their order.
-fn enter_each(sets: usize, desks: &mut [Desk], line: &ScriptLine)
+/// Makes the entry of a line at each pool, in their order.
+fn enter_each(sets: usize, runs: &mut [PoolRun], line: &ScriptLine)
     requires party { line.now.party < 256 }
     requires fits { IsBelow (set_asked line.now.kind) sets }
-    requires ready { list_all (is_ready sets) desks.old ≡ true }
-    ensures { desks.new ≡ map (entered_at line.now) desks.old }
+    requires ready { list_all (is_ready sets) runs.old ≡ true }
+    ensures { runs.new ≡ map (entered_at line.now) runs.old }
 {
-    for desk in desks.iter_mut() {
-        desk.enter(line);
+    for run in runs.iter_mut() {
+        run.enter(line);
     }
 }
 
 /// Answers a line that asks for the rule set of this number, and makes its entries where there is one.
-fn answer_reread(sets: usize, desks: &mut [Desk], line: &ScriptLine, set: u32) -> Answer
+fn answer_reread(sets: usize, runs: &mut [PoolRun], line: &ScriptLine, set: u32) -> Answer
     requires party { line.now.party < 256 }
     requires asked { set_asked line.now.kind ≡ Some set }
-    requires ready { list_all (is_ready sets) desks.old ≡ true }
-    ensures desks { desks.new ≡ desks_reread sets desks.old line.now set }
+    requires ready { list_all (is_ready sets) runs.old ≡ true }
+    ensures runs { runs.new ≡ after_asked run_walk sets runs.old line.now (Some set) }
     ensures answer { result ≡ set_answer sets set }
 {
     if (set as usize) < sets {
-        enter_each(sets, desks, line);
+        enter_each(sets, runs, line);
         Answer::Reread(set)
     } else {
         Answer::NoRules(set)
     }
 }
 
-/// Makes the entry of a line at the desk of this place, and gives its answer.
-fn answer_at(sets: usize, desks: &mut [Desk], line: &ScriptLine, at: usize) -> Answer
-    requires there { at < length desks.old }
+/// Makes the entry of a line at the pool of this place, and gives its answer.
+fn answer_at(sets: usize, runs: &mut [PoolRun], line: &ScriptLine, at: usize) -> Answer
+    requires there { at < length runs.old }
     requires party { line.now.party < 256 }
     requires asked { set_asked line.now.kind ≡ None }
-    requires ready { list_all (is_ready sets) desks.old ≡ true }
-    ensures desks { desks.new ≡ desks_sent desks.old line.now (Found.Pool at) }
-    ensures answer { result ≡ answer_there desks.old line.now (Found.Pool at) }
+    requires ready { list_all (is_ready sets) runs.old ≡ true }
+    ensures runs { runs.new ≡ after_sent run_walk runs.old line.now (Found.Pool at) }
+    ensures answer { result ≡ sent_answer run_walk runs.old line.now (Found.Pool at) }
 {
-    let desk = &mut desks[at];
-    let place = desk.entries;
-    Answer::Entry(desk.enter(line), place)
+    let run = &mut runs[at];
+    let place = run.entries;
+    Answer::Entry(run.enter(line), place)
 }
 
-/// Answers a line that asks for no rule set: it goes to a desk and makes its entry there, or goes nowhere.
-fn answer_request(licence: &Licence, sets: usize, desks: &mut [Desk], line: &ScriptLine) -> Answer
-    requires pools { length licence.now.pools ≡ length desks.old }
+/// Answers a line that asks for no rule set: it goes to a pool and makes its entry there, or goes nowhere.
+fn answer_request(licence: &Licence, sets: usize, runs: &mut [PoolRun], line: &ScriptLine) -> Answer
+    requires pools { pools_of runs.old ≡ licence.now.pools }
     requires party { line.now.party < 256 }
     requires asked { set_asked line.now.kind ≡ None }
-    requires ready { list_all (is_ready sets) desks.old ≡ true }
-    ensures desks { desks.new ≡ desks_sent desks.old line.now (sent_by licence.now.pools desks.old line.now line.now.feature) }
-    ensures answer { result ≡ answer_there desks.old line.now (sent_by licence.now.pools desks.old line.now line.now.feature) }
+    requires ready { list_all (is_ready sets) runs.old ≡ true }
+    ensures runs { runs.new ≡ after_asked run_walk sets runs.old line.now None }
+    ensures answer { result ≡ asked_answer run_walk sets runs.old line.now None }
 {
-    match find(licence, desks, line) {
-        Found::Pool(at) => answer_at(sets, desks, line, at),
+    match find(licence, runs, line) {
+        Found::Pool(at) => answer_at(sets, runs, line, at),
         Found::Unknown => Answer::Unknown,
         Found::Expired(day) => Answer::Expired(day),
     }
@@ -82,35 +83,35 @@ fn answer_request(licence: &Licence, sets: usize, desks: &mut [Desk], line: &Scr
 pub(crate) fn answer_line(
     licence: &Licence,
     sets: usize,
-    desks: &mut [Desk],
+    runs: &mut [PoolRun],
     line: &ScriptLine,
 ) -> Answer
-    requires pools { length licence.now.pools ≡ length desks.old }
+    requires pools { pools_of runs.old ≡ licence.now.pools }
     requires party { line.now.party < 256 }
-    requires ready { list_all (is_ready sets) desks.old ≡ true }
-    ensures desks { desks.new ≡ desks_after sets licence.now.pools desks.old line.now }
-    ensures answer { result ≡ desks_answer sets licence.now.pools desks.old line.now }
+    requires ready { list_all (is_ready sets) runs.old ≡ true }
+    ensures runs { runs.new ≡ after_line run_walk sets runs.old line.now }
+    ensures answer { result ≡ line_answer run_walk sets runs.old line.now }
 {
     match line.kind.set_asked() {
-        Some(set) => answer_reread(sets, desks, line, set),
-        None => answer_request(licence, sets, desks, line),
+        Some(set) => answer_reread(sets, runs, line, set),
+        None => answer_request(licence, sets, runs, line),
     }
 }
 
-/// Plays the lines of a script at the desks of a licence's pools, before any of them has an entry.
+/// Plays the lines of a script at the pools of a licence, before any of them has an entry.
 fn play_lines<O: Sink>(
     licence: &Licence,
     options: &[Options],
-    desks: &mut [Desk],
+    runs: &mut [PoolRun],
     lines: &[ScriptLine],
     out: &mut O,
 ) -> Result<(), WriteFailed>
     requires fit { list_all is_fit lines.now ≡ true }
-    requires opened { desks.old ≡ map (desk_of options.now) licence.now.pools }
+    requires opened { runs.old ≡ map (run_of options.now) licence.now.pools }
     ensures { Wrote O.held O.faults out.old out.new (output_of licence.now.pools options.now lines.now) result }
 {
     for line in lines {
-        let answer = answer_line(licence, options.len(), desks, line);
+        let answer = answer_line(licence, options.len(), runs, line);
         write_answer(out, &answer)?;
     }
     Ok(())
@@ -149,7 +150,7 @@ pub fn play<O: Sink>(
     ensures histories { Histories licence.now.pools options.now lines.now }
 {
     tell_histories(licence, options, lines);
-    let mut desks = make_desks(alloc, licence.pools(), options)?;
-    play_lines(licence, options, desks.as_mut_slice(), lines, out)?;
+    let mut runs = make_runs(alloc, licence.pools(), options)?;
+    play_lines(licence, options, runs.as_mut_slice(), lines, out)?;
     Ok(())
 }

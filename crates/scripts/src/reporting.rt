@@ -1,16 +1,16 @@
 ghost use Rattle.std.specs.Prelude.{◌≡◌, ◌≤◌, ◌<◌, ◌++◌, ◌^◌, IfOk, OnOk, length, map, true};
 ghost use Rattle.std.specs.List.{list_all};
 ghost use Rattle.script_text.specs.Fits.{is_fit};
-ghost use Rattle.scripts.specs.Desks.{desk_of};
 ghost use Rattle.scripts.specs.Laws.{Histories};
-ghost use Rattle.scripts.specs.Played.{AreDesks};
-ghost use Rattle.scripts.specs.Reports.{desk_reports, report_of};
+ghost use Rattle.scripts.specs.Played.{AreRunsOf};
+ghost use Rattle.scripts.specs.PoolRuns.{run_of};
+ghost use Rattle.scripts.specs.Reports.{report_of, run_reports};
 ghost use Rattle.scripts.specs.Script.{ledgers_of};
 
-use crate::desk::Desk;
 use crate::histories::tell_histories;
-use crate::making::make_desks;
+use crate::making::make_runs;
 use crate::playing::answer_line;
+use crate::pool_run::PoolRun;
 use feature_lines::Licence;
 use lic_types::NoMemory;
 use options_text::Options;
@@ -18,25 +18,25 @@ use script_text::ScriptLine;
 use stat_report::report;
 use std::alloc::Global;
 
-/// Makes the entries of the lines of a script at the desks of a licence's pools, before any of them has an entry.
-fn enter_lines(licence: &Licence, options: &[Options], desks: &mut [Desk], lines: &[ScriptLine])
+/// Makes the entries of the lines of a script at the pools of a licence, before any of them has an entry.
+fn enter_lines(licence: &Licence, options: &[Options], runs: &mut [PoolRun], lines: &[ScriptLine])
     requires fit { list_all is_fit lines.now ≡ true }
-    requires opened { desks.old ≡ map (desk_of options.now) licence.now.pools }
-    ensures desks { AreDesks (length options.now) (length lines.now) desks.new (ledgers_of licence.now.pools options.now lines.now) }
-    ensures len { length desks.new ≡ length desks.old }
+    requires opened { runs.old ≡ map (run_of options.now) licence.now.pools }
+    ensures runs { AreRunsOf (length options.now) (length lines.now) runs.new (ledgers_of licence.now.pools options.now lines.now) }
+    ensures len { length runs.new ≡ length runs.old }
 {
     for line in lines {
-        let _ = answer_line(licence, options.len(), desks, line);
+        let _ = answer_line(licence, options.len(), runs, line);
     }
 }
 
-/// Writes the reports of desks, which are numbered from 0.
-fn put_reports(alloc: Global, text: &mut Vec<u8>, desks: &[Desk]) -> Result<(), NoMemory>
-    requires { length desks.now < 2 ^ 32 }
-    ensures { OnOk result (text.new.items ≡ text.old.items ++ desk_reports 0 desks.now) }
+/// Writes the reports of pools, which are numbered from 0.
+fn put_reports(alloc: Global, text: &mut Vec<u8>, runs: &[PoolRun]) -> Result<(), NoMemory>
+    requires { length runs.now < 2 ^ 32 }
+    ensures { OnOk result (text.new.items ≡ text.old.items ++ run_reports 0 runs.now) }
 {
-    for (at, desk) in desks.iter().enumerate() {
-        let told = report(alloc, at as u32, &desk.pool, &desk.book)?;
+    for (at, run) in runs.iter().enumerate() {
+        let told = report(alloc, at as u32, &run.pool, &run.book)?;
         text.extend_from_slice(told.as_slice())?;
     }
     Ok(())
@@ -58,9 +58,9 @@ pub fn report_script(
     ensures histories { Histories licence.now.pools options.now lines.now }
 {
     tell_histories(licence, options, lines);
-    let mut desks = make_desks(alloc, licence.pools(), options)?;
-    enter_lines(licence, options, desks.as_mut_slice(), lines);
+    let mut runs = make_runs(alloc, licence.pools(), options)?;
+    enter_lines(licence, options, runs.as_mut_slice(), lines);
     let mut text = Vec::new(alloc);
-    put_reports(alloc, &mut text, desks.as_slice())?;
+    put_reports(alloc, &mut text, runs.as_slice())?;
     Ok(text)
 }

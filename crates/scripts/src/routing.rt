@@ -1,36 +1,36 @@
-ghost use Rattle.std.specs.Prelude.{◌≡◌, length};
+ghost use Rattle.std.specs.Prelude.{◌≡◌};
 ghost use Rattle.std.specs.List.{position_from};
-ghost use Rattle.scripts.specs.Desks.{IsThere, is_named, keeps_at, routed_at, sent_by};
+ghost use Rattle.scripts.specs.PoolRuns.{pools_of, run_walk};
+ghost use Rattle.scripts.specs.Walk.{is_kept, is_named, routed, sent};
 
-use crate::desk::Desk;
+use crate::pool_run::PoolRun;
 use feature_lines::{Found, Licence};
 use lic_types::Name;
 use script_text::ScriptLine;
 
-/// The first desk of the name at which the party keeps a place.
-fn first_kept(desks: &[Desk], name: &Name, party: u32) -> Option<usize>
-    ensures { result ≡ position_from (keeps_at name.now party) 0 desks.now }
+/// The first pool of the name at which the party keeps a place.
+fn first_kept(runs: &[PoolRun], name: &Name, party: u32) -> Option<usize>
+    ensures { result ≡ position_from (is_kept run_walk name.now party) 0 runs.now }
 {
-    desks.iter().position(|desk| desk.keeps(name, party))
+    runs.iter().position(|run| run.keeps(name, party))
 }
 
-/// The first desk of the name.
-fn first_named(desks: &[Desk], name: &Name) -> Option<usize>
-    ensures { result ≡ position_from (is_named name.now) 0 desks.now }
+/// The first pool of the name.
+fn first_named(runs: &[PoolRun], name: &Name) -> Option<usize>
+    ensures { result ≡ position_from (is_named run_walk name.now) 0 runs.now }
 {
-    desks.iter().position(|desk| desk.pool.name == *name)
+    runs.iter().position(|run| run.pool.name == *name)
 }
 
 /// Where a line of a party that keeps no place goes: with a version to the pool that serves it at the line's own moment,
 /// and else to the first pool of the name.
-fn route(licence: &Licence, desks: &[Desk], line: &ScriptLine, name: &Name) -> Found
-    requires { length licence.now.pools ≡ length desks.now }
-    ensures found { result ≡ routed_at licence.now.pools desks.now name.now line.now.moment line.now.version }
-    ensures there { IsThere (length desks.now) result }
+fn route(licence: &Licence, runs: &[PoolRun], line: &ScriptLine, name: &Name) -> Found
+    requires { pools_of runs.now ≡ licence.now.pools }
+    ensures { result ≡ routed run_walk runs.now name.now line.now.moment line.now.version }
 {
     match line.version {
         Some(version) => licence.find(name, version, line.moment),
-        None => match first_named(desks, name) {
+        None => match first_named(runs, name) {
             Some(at) => Found::Pool(at),
             None => Found::Unknown,
         },
@@ -38,16 +38,15 @@ fn route(licence: &Licence, desks: &[Desk], line: &ScriptLine, name: &Name) -> F
 }
 
 /// Where a line goes: to the first pool of its feature's name at which its party keeps a place, if there is one.
-pub(crate) fn find(licence: &Licence, desks: &[Desk], line: &ScriptLine) -> Found
-    requires { length licence.now.pools ≡ length desks.now }
-    ensures found { result ≡ sent_by licence.now.pools desks.now line.now line.now.feature }
-    ensures there { IsThere (length desks.now) result }
+pub(crate) fn find(licence: &Licence, runs: &[PoolRun], line: &ScriptLine) -> Found
+    requires { pools_of runs.now ≡ licence.now.pools }
+    ensures { result ≡ sent run_walk runs.now line.now line.now.feature }
 {
     let Some(name) = &line.feature else {
         return Found::Unknown;
     };
-    match first_kept(desks, name, line.party) {
+    match first_kept(runs, name, line.party) {
         Some(at) => Found::Pool(at),
-        None => route(licence, desks, line, name),
+        None => route(licence, runs, line, name),
     }
 }

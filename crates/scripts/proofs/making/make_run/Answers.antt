@@ -1,5 +1,5 @@
 use Rattle.scripts.proofs.Sets.{are_sets_of}
-use Rattle.scripts.proofs.making.make_desk.Goals as goal
+use Rattle.scripts.proofs.making.make_run.Goals as goal
 
 pub make_many-requires-clause-sets : goal.make_many-requires-clause-sets
 make_many-requires-clause-sets c =

@@ -1,7 +1,8 @@
 ghost use Rattle.std.specs.Prelude.{◌≡◌, ◌-◌, ◌<◌, ◌^◌, length};
 ghost use Rattle.options_machine.specs.Run.{AsksForSet};
-ghost use Rattle.scripts.specs.Desks.{answer_at, entered_at, keeps_at, places_with, says_place};
+ghost use Rattle.scripts.specs.PoolRuns.{entered_at, places_with, run_walk, says_place, served_at};
 ghost use Rattle.scripts.specs.Script.{request_of};
+ghost use Rattle.scripts.specs.Walk.{is_kept};
 
 use feature_lines::Pool;
 use lic_types::Name;
@@ -14,7 +15,7 @@ pub(crate) const PARTIES: u32 = 256;
 
 /// A pool while a script is played: its book, and what the lines so far left there.
 #[derive(Drop)]
-pub(crate) struct Desk {
+pub(crate) struct PoolRun {
     pub(crate) pool: Pool,
     pub(crate) book: Book,
     /// How many entries were made there.
@@ -40,10 +41,10 @@ fn note_place(places: &mut [bool; 256], line: &ScriptLine, reply: &Reply)
     }
 }
 
-impl Desk {
+impl PoolRun {
     /// Whether the pool is of the name and the party keeps a place there.
     pub(crate) fn keeps(&self, name: &Name, party: u32) -> bool
-        ensures { result ≡ keeps_at name.now party self.now }
+        ensures { result ≡ is_kept run_walk name.now party self.now }
     {
         self.pool.name == *name && self.places.get(party as usize).copied().unwrap_or(false)
     }
@@ -55,7 +56,7 @@ impl Desk {
         requires fits { AsksForSet self.old.book.sets (request_of line.now) }
         requires few { self.old.entries < 2 ^ 64 - 1 }
         ensures entered { self.new ≡ entered_at line.now self.old }
-        ensures reply { result ≡ (answer_at line.now self.old).0 }
+        ensures reply { result ≡ (served_at line.now self.old).0 }
     {
         let request = Request {
             party: line.party,

@@ -1,6 +1,0 @@
-use Rattle.std.proofs.Common.{◌≡◌, map, take}
-use Rattle.scripts.specs.Desks.{desk_of}
-use Rattle.scripts.proofs.making.make_desks.Given as goal
-
-abbrev pub invariant-loop-pool : goal.invariant-loop-pool
-invariant-loop-pool l = l.desks.items ≡ map (desk_of l.options) (take l.pool-index l.pools)
