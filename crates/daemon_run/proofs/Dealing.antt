@@ -4,7 +4,9 @@ use Rattle.std.proofs.lemmas.List.{get_or-map, length-map, get_or_append_left, g
 use Rattle.std.proofs.lemmas.List.Elements.{All-append}
 use Rattle.std.proofs.lemmas.List.Sorted.{All-permutation, IsPermutation-reverse}
 use Rattle.feature_desk.specs.Sitters.{DeskView, IsOf, Sitter, account_of, newcomer}
-use Rattle.licence_office.specs.Offices.{AreAt}
+use Rattle.feature_desk.specs.Closings.{DeskKeeperView, IsKeeperOf}
+use Rattle.licence_office.specs.Logs.{AreLogsOf, LogsSeen}
+use Rattle.licence_office.specs.Offices.{AreAt, OfficeSeen}
 use Rattle.office_view.specs.View.{View}
 use Rattle.session.specs.Pass.{AreIdle, AreOf}
 use Rattle.daemon_run.specs.Join.{HasSets}
@@ -72,3 +74,11 @@ module _ {X : Type 0} (P : X → Type 0) where
       All-append P left gone
       (subst (λ (l : List X). All P l) (reverse-reverse left) (All-permutation P (reverse left) (reverse (reverse left)) (IsPermutation-reverse (reverse left)) (all_right gone (reverse left) both)))
       (all_left gone (reverse left) both)
+
+-- logs that kept their desks are of the same office, whatever was taken out of them
+pub still_logs : (old new : LogsSeen) (o : OfficeSeen) → new.keepers ≡ old.keepers → new.parties ≡ old.parties → AreLogsOf old o → AreLogsOf new o
+still_logs old new o keepers parties of = record {
+  parties = parties ∙ of.parties;
+  many = ap length keepers ∙ of.many;
+  keepers = λ j k d lt. subst (λ (ks : List DeskKeeperView). IsKeeperOf (get_or ks j k) (get_or o.view.desks j d)) (sym keepers) (of.keepers j k d lt);
+}

@@ -9,7 +9,7 @@ use Rattle.feature_desk.specs.Sitters.{DeskView, IsOf, Sitter, newcomer}
 use Rattle.feature_lines.specs.declared.pool.Pool.{Pool}
 use Rattle.options_text.specs.Options.{OptionsFile}
 use Rattle.licence_office.proofs.Ends.{ends_more}
-use Rattle.licence_office.specs.declared.office.DeskEnd.{DeskEnd}
+use Rattle.licence_office.specs.declared.logs.DeskEnd.{DeskEnd}
 use Rattle.licence_office.specs.Dealing.{IsHanded, IsRoomFor}
 use Rattle.licence_office.specs.Offices.{AreAt, AreDealt, IsDeskFor}
 use Rattle.licence_office.specs.Rooms.{AreEnds, IsEndOf}

@@ -2,7 +2,7 @@
 use Rattle.std.proofs.Common.{◌≡◌, ℕ, List, [], ◌∷◌, ◌++◌, get_or, length, refl, sym, subst, arith, below_more, length-append}
 use Rattle.std.proofs.lemmas.List.{get_or_append_left, get_or_push}
 use Rattle.feature_desk.specs.Sitters.{DeskView}
-use Rattle.licence_office.specs.declared.office.DeskEnd.{DeskEnd}
+use Rattle.licence_office.specs.declared.logs.DeskEnd.{DeskEnd}
 use Rattle.licence_office.specs.Rooms.{AreEnds, IsEndOf}
 
 pub ends_more : (n : ℕ) (desks : List DeskView) (ends : List DeskEnd) (d : DeskView) (e : DeskEnd) → AreEnds n desks ends → IsEndOf n d e → AreEnds n (desks ++ d ∷ []) (ends ++ e ∷ [])

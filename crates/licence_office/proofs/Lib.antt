@@ -3,3 +3,4 @@ pub mod Ends
 pub mod Dealt
 pub mod Ended
 pub mod Gates
+pub mod Rounds

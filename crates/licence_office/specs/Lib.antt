@@ -1,3 +1,4 @@
 pub mod Offices
 pub mod Dealing
+pub mod Logs
 pub mod Rooms

@@ -5,11 +5,13 @@ ghost use Rattle.desk_book.specs.declared.end.DeskLog.{DeskLog};
 ghost use Rattle.feature_desk.specs.declared.closing.DeskTally.{DeskTally};
 ghost use Rattle.feature_desk.specs.Closings.{HasLog, Tells};
 ghost use Rattle.feature_desk.specs.Sitters.{DeskView};
+ghost use Rattle.licence_office.specs.Logs.{AreLogsOf};
 ghost use Rattle.licence_office.specs.Offices.{AreAt, accounts_at};
 ghost use Rattle.licence_office.specs.Rooms.{AreEnds, HasRoom};
 
 use crate::dealing::take_in;
-use crate::office::{DeskEnd, Office, OfficePass, Opened};
+use crate::logs::{DeskEnd, OfficeLogs};
+use crate::office::{Office, OfficePass, Opened};
 use desk_book::DeskLog;
 use feature_desk::DeskTally;
 use no_memory::NoMemory;
@@ -73,29 +75,37 @@ pub(crate) fn close_all<R: Wait>(rt: &R, opened: Opened, parties: &mut [OfficePa
 }
 
 impl Office {
-    /// Takes the passes of all parties in, in any order, ends the boards of all desks, and tells the numbers of each desk's
-    /// whole history, in the order of the pools. No party may hold a seat.
+    /// Takes the passes of all parties in, in any order, and the office's logs, ends the boards of all desks, and tells the numbers
+    /// of each desk's whole history, in the order of the pools. No party may hold a seat.
     ///
     /// It takes no memory. It waits for those who read a board, and for nobody's turn.
-    pub fn close<R: Wait>(self, rt: &R, passes: Vec<OfficePass>) -> Vec<DeskTally>
+    pub fn close<R: Wait>(self, rt: &R, passes: Vec<OfficePass>, logs: OfficeLogs) -> Vec<DeskTally>
         requires count { vec_len passes ≡ self.parties }
         requires ready { All (λ p. AreAt self.view.desks p.items) passes.items }
+        requires logs { AreLogsOf logs self }
         ensures { (histories : List (List Entry)) × (length histories ≡ length self.view.desks)
             × ((j : ℕ) (d : DeskView) (t : DeskTally) → j < length self.view.desks
             → Tells (get_or self.view.desks j d) (accounts_at j passes.items) (get_or result.items j t) (get_or histories j []))
             × (vec_len result ≡ length self.view.desks) }
     {
-        let OfficeEnd { tallies, logs: _ } = self.close_with_log(rt, passes);
+        let OfficeEnd { tallies, logs: _ } = self.close_with_log(rt, passes, logs);
         tallies
     }
 
-    /// Takes the passes of all parties in, in any order, ends the boards of all desks, and tells the numbers of each desk's
-    /// whole history, and the log of its first 4,096 entries, in the order of the pools. No party may hold a seat.
+    /// Takes the passes of all parties in, in any order, and the office's logs, ends the boards of all desks, and tells the numbers
+    /// of each desk's whole history, and the log of its first 4,096 entries, in the order of the pools, whatever was taken out of
+    /// the logs before. No party may hold a seat.
     ///
     /// It takes no memory. It waits for those who read a board, and for nobody's turn.
-    pub fn close_with_log<R: Wait>(self, rt: &R, passes: Vec<OfficePass>) -> OfficeEnd
+    pub fn close_with_log<R: Wait>(
+        self,
+        rt: &R,
+        passes: Vec<OfficePass>,
+        logs: OfficeLogs,
+    ) -> OfficeEnd
         requires count { vec_len passes ≡ self.parties }
         requires ready { All (λ p. AreAt self.view.desks p.items) passes.items }
+        requires logs { AreLogsOf logs self }
         ensures { (histories : List (List Entry)) × (length histories ≡ length self.view.desks)
             × ((j : ℕ) (d : DeskView) (t : DeskTally) (l : DeskLog) → j < length self.view.desks
             → Tells (get_or self.view.desks j d) (accounts_at j passes.items) (get_or result.tallies.items j t) (get_or histories j [])
@@ -103,12 +113,8 @@ impl Office {
             × (vec_len result.tallies ≡ length self.view.desks) × (vec_len result.logs ≡ length self.view.desks) }
     {
         let mut passes = passes;
-        let Office {
-            view,
-            ends,
-            told,
-            parties: _,
-        } = self;
+        let Office { view, parties: _ } = self;
+        let OfficeLogs { ends, told, .. } = logs;
         let opened = Opened {
             desks: view.into_desks(),
             ends,

@@ -7,12 +7,14 @@ ghost use Rattle.options_machine.specs.Rules.{IsSound};
 ghost use Rattle.options_machine.specs.State.{set_at};
 ghost use Rattle.policy.specs.Pools.{rules_of};
 ghost use Rattle.licence_office.specs.Dealing.{IsRoomFor};
+ghost use Rattle.licence_office.specs.Logs.{AreLogsOf};
 ghost use Rattle.licence_office.specs.Offices.{AreDealt, IsDeskFor, has_gate};
 ghost use Rattle.licence_office.specs.Rooms.{AreEnds, HasRoom};
 
 use crate::closing::{OfficeEnd, close_all};
 use crate::dealing::{hand_out, rooms};
-use crate::office::{DeskEnd, Office, OfficePass, Opened};
+use crate::logs::{DeskEnd, OfficeLogs};
+use crate::office::{Office, OfficePass, Opened};
 use feature_desk::{Desk, DeskKeeper, DeskPass};
 use feature_lines::{Licence, Pool};
 use kex_net::tree;
@@ -117,25 +119,26 @@ fn open_all<R: Wait>(
 }
 
 impl Office {
-    /// The desks of a licence's pools, in order, under one options file, and the passes of 2 to 256 parties, in order, as
-    /// [`make_many`](Office::make_many) makes them. `NoMemory` comes where there is too little memory.
+    /// The desks of a licence's pools, in order, under one options file, the passes of 2 to 256 parties, in order, and the logs of
+    /// the desks, as [`make_many`](Office::make_many) makes them. `NoMemory` comes where there is too little memory.
     pub fn make<R: Wait>(
         rt: &R,
         alloc: Global,
         licence: &Licence,
         options: &Options,
         parties: u32,
-    ) -> Result<(Office, Vec<OfficePass>), NoMemory>
+    ) -> Result<(Office, Vec<OfficePass>, OfficeLogs), NoMemory>
         requires { (2 ≤ parties) × (parties ≤ 256) }
         ensures view { IfOk result (λ made. (made.0.view.pools ≡ licence.now.pools) × (made.0.view.sets ≡ 1) × (made.0.parties ≡ parties)) }
         ensures desks { IfOk result (λ made. (j : ℕ) (p : Pool) (d : DeskView) → j < length licence.now.pools → IsDeskFor (options.now ∷ []) parties (get_or licence.now.pools j p) (get_or made.0.view.desks j d)) }
         ensures passes { IfOk result (λ made. (vec_len made.1 ≡ parties) × AreDealt made.0.view.desks made.1.items) }
+        ensures logs { IfOk result (λ made. AreLogsOf made.2 made.0) }
     {
         Office::make_many(rt, alloc, licence, from_ref(options), parties)
     }
 
-    /// The desks of a licence's pools, in order, each with one rule set for each of one to four options files; and the passes
-    /// of 2 to 256 parties, in order.
+    /// The desks of a licence's pools, in order, each with one rule set for each of one to four options files; the passes of 2 to
+    /// 256 parties, in order; and the logs of the desks.
     ///
     /// It takes all memory that the office ever needs, but what the boards of its desks take at their first entries. `NoMemory`
     /// comes where there is not so much; the desks that were made are closed then. It waits for nobody, since nobody has a pass
@@ -146,12 +149,13 @@ impl Office {
         licence: &Licence,
         sets: &[Options],
         parties: u32,
-    ) -> Result<(Office, Vec<OfficePass>), NoMemory>
+    ) -> Result<(Office, Vec<OfficePass>, OfficeLogs), NoMemory>
         requires parties { (2 ≤ parties) × (parties ≤ 256) }
         requires sets { (1 ≤ length sets.now) × (length sets.now ≤ 4) }
         ensures view { IfOk result (λ made. (made.0.view.pools ≡ licence.now.pools) × (made.0.view.sets ≡ length sets.now) × (made.0.parties ≡ parties)) }
         ensures desks { IfOk result (λ made. (j : ℕ) (p : Pool) (d : DeskView) → j < length licence.now.pools → IsDeskFor sets.now parties (get_or licence.now.pools j p) (get_or made.0.view.desks j d)) }
         ensures passes { IfOk result (λ made. (vec_len made.1 ≡ parties) × AreDealt made.0.view.desks made.1.items) }
+        ensures logs { IfOk result (λ made. AreLogsOf made.2 made.0) }
     {
         let pools = licence.pools();
         let listed = Vec::from_slice(alloc, pools)?;
@@ -169,12 +173,13 @@ impl Office {
             rooms,
         )?;
         let view = OfficeView::of(listed, desks, sets.len() as u32);
-        let office = Office {
-            view,
+        let office = Office { view, parties };
+        let logs = OfficeLogs {
             ends,
             told,
             parties,
+            count: None,
         };
-        Ok((office, passes))
+        Ok((office, passes, logs))
     }
 }

@@ -1,22 +1,14 @@
 //! An office, as those see it who work there.
-ghost use Rattle.std.specs.Prelude.{◌≡◌, []};
+ghost use Rattle.std.specs.Prelude.{◌≡◌};
 
 use crate::closing::OfficeEnd;
-use feature_desk::{Desk, DeskKeeper, DeskPass};
+use crate::logs::DeskEnd;
+use feature_desk::{Desk, DeskPass};
 use office_view::OfficeView;
 use std::marker::Model;
 
 /// A party's passes, one for each desk, in order.
 pub type OfficePass = Vec<DeskPass>;
-
-// What a desk's end takes.
-#[derive(Drop)]
-pub(crate) struct DeskEnd {
-    // Who keeps the desk's log.
-    pub(crate) keeper: DeskKeeper,
-    // An empty list with room for the passes of all parties.
-    pub(crate) room: Vec<DeskPass>,
-}
 
 // The desks that were opened, with what their end takes.
 pub(crate) struct Opened {
@@ -34,8 +26,6 @@ pub(crate) struct Opened {
 /// dropped, since its desks can't: [`Office::close_with_log`] or [`Office::close`] ends it.
 pub struct Office {
     pub(crate) view: OfficeView<Desk>,
-    pub(crate) ends: Vec<DeskEnd>,
-    pub(crate) told: OfficeEnd,
     pub(crate) parties: u32,
 }
 

@@ -1,6 +1,6 @@
 use Rattle.std.proofs.Common.{◌+◌, ◌++◌, ◌∷◌, [], List, Vec, Global, length, sym, subst, arith}
 use Rattle.feature_desk.specs.Sitters.{DeskView, Sitter}
-use Rattle.licence_office.specs.declared.office.DeskEnd.{DeskEnd}
+use Rattle.licence_office.specs.declared.logs.DeskEnd.{DeskEnd}
 use Rattle.licence_office.proofs.Dealt.{AreOpened, dealt_are_at, has_room, opened_more}
 use Rattle.licence_office.specs.Rooms.{IsEndOf}
 use Rattle.licence_office.proofs.making.open_all.Goals as goal
