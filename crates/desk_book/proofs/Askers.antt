@@ -1,17 +1,14 @@
 -- What a party knows after a call.
-use Rattle.std.proofs.Common.{◌≡◌, ℕ, zero, suc, ◌+◌, ◌%◌, ◌^◌, ◌≤◌, Bool, true, false, List, [], ◌∷◌, ◌++◌, length, map, take, min, slice_get, Some, refl, sym, ap, subst, ◌∙◌, arith, eqb, length-append, append_assoc}
+use Rattle.std.proofs.Common.{◌≡◌, ℕ, zero, suc, ◌+◌, ◌%◌, ◌^◌, ◌≤◌, Bool, true, false, List, [], ◌∷◌, ◌++◌, length, take, min, slice_get, Some, refl, sym, ap, subst, ◌∙◌, arith, eqb, length-append, append_assoc}
 use Rattle.std.proofs.lemmas.List.{take-append-le, length-take, map-append}
 use Rattle.std.proofs.lemmas.Option.{slice_get_within}
 use Rattle.counter.specs.Account.{Extends}
 use Rattle.options_machine.specs.declared.reply.Entry.{Entry}
-use Rattle.options_machine.specs.declared.reply.Request.{Request}
 use Rattle.options_machine.specs.Own as machine
-use Rattle.options_machine.specs.Run.{IsRun, after}
-use Rattle.options_machine.specs.Settle.{moved}
 use Rattle.stat_board.specs.Fronts.{Front, IsSameBoard, IsLater}
 use Rattle.turn_lock.specs.Entries as turns
 use Rattle.desk_book.specs.declared.book.DeskLaw.{DeskLaw}
-use Rattle.desk_book.specs.Askers.{Asker, IsCount, IsInformed, Makes, Ticket, asker_of, party_of}
+use Rattle.desk_book.specs.Askers.{IsCount, IsInformed, Makes, Ticket, asker_of, party_of}
 use Rattle.desk_book.specs.Standing.{AreNoted, Call, Runs, at, entries_of, entry_of, used_at}
 use Rattle.desk_book.proofs.Notes.{entries_length, entries_longer}
 

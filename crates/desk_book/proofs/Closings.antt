@@ -1,5 +1,5 @@
 -- The parties' passes, and the lock's passes in them.
-use Rattle.std.proofs.Common.{◌≡◌, ◌≢◌, ℕ, zero, suc, ◌+◌, ◌%◌, ◌^◌, ◌<◌, List, [], ◌∷◌, ◌++◌, map, length, All, refl, sym, ap, subst, ◌∙◌, arith, nat_lt}
+use Rattle.std.proofs.Common.{◌≡◌, ◌≢◌, ℕ, zero, suc, ◌%◌, ◌^◌, ◌<◌, List, [], ◌∷◌, ◌++◌, length, All, refl, sym, ap, subst, ◌∙◌, arith}
 use Rattle.std.specs.List.{sum_by}
 use Rattle.std.proofs.lemmas.List.{map-append}
 use Rattle.std.proofs.lemmas.List.Sums.{sum_by-cons}
@@ -69,7 +69,7 @@ sum_parties f (b ∷ ps) (u ∷ ts) are =
 
 -- what the close of the lock tells, in the machine's entries
 pub tells : (law : DeskLaw) (ps : List Asker) (ts : List Ticket) (book : DeskBook) (calls : ℕ) (closed : Closed) → AreTickets ps ts → Closes party_of Runs Stands law ts book calls
-    → closed.calls ≡ calls → closed.grants ≡ book.grants → closed.log.entries.items ≡ book.log.pushed → closed.log.cut ≡ book.cut → (h : List Entry) × Tells law ps closed h
+    → closed.calls ≡ calls → closed.grants ≡ book.book.grants → closed.log.entries.items ≡ book.log.pushed → closed.log.cut ≡ book.cut → (h : List Entry) × Tells law ps closed h
 tells law ps ts book calls closed are closes calls_is grants_is logged cut =
     let h : List Call = closes.history in (
       entries_of h,

@@ -4,3 +4,4 @@ mod Notes
 pub mod Askers
 pub mod Closings
 mod Pairs
+pub mod Crossing

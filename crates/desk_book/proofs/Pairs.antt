@@ -1,6 +1,6 @@
 -- The loop that pairs the passes of the lock with the views of the board.
-use Rattle.std.proofs.Common.{◌≡◌, ℕ, zero, suc, ◌+◌, ◌-◌, ◌<◌, ◌≤◌, List, [], ◌∷◌, ◌++◌, reverse, length, refl, ap, sym, ◌∙◌, subst, arith, slice_get, Some, EachIndex, length-append}
-use Rattle.std.proofs.lemmas.List.{length-reverse, reverse-append}
+use Rattle.std.proofs.Common.{◌≡◌, ℕ, zero, suc, ◌+◌, ◌<◌, List, [], ◌∷◌, ◌++◌, reverse, length, refl, ap, sym, ◌∙◌, arith, slice_get, Some, EachIndex, length-append}
+use Rattle.std.proofs.lemmas.List.{reverse-append}
 use Rattle.turn_lock.specs.Passes.{Lock}
 use Rattle.desk_book.specs.declared.book.DeskLaw.{DeskLaw}
 use Rattle.desk_book.specs.Askers.{Asker, newcomer}

@@ -1,13 +1,12 @@
 -- One step of the value behind the lock.
 use Rattle.std.proofs.Math.Nat.{mod-add-mod}
-use Rattle.std.proofs.Common.{◌≡◌, ◌⊎◌, ⊎_elim, ℕ, ◌+◌, ◌%◌, ◌<◌, ◌^◌, Bool, true, false, cond, nat_lt, List, [], ◌∷◌, ◌++◌, map, length, count_by, take, refl, ap, sym, ◌∙◌, subst, arith}
+use Rattle.std.proofs.Common.{◌≡◌, ⊎_elim, ℕ, ◌+◌, ◌%◌, ◌<◌, ◌^◌, true, false, cond, nat_lt, List, [], ◌∷◌, ◌++◌, length, take, ap, sym, ◌∙◌, subst, arith}
 use Rattle.audit_log.specs.Rule.{most}
 use Rattle.counter.specs.Account.{grants}
 use Rattle.counter.specs.declared.glance.Glance.{Glance}
 use Rattle.counter.specs.Glances.{numbers_of}
 use Rattle.options_machine.specs.declared.reply.Entry.{Entry}
 use Rattle.options_machine.specs.declared.reply.Reply.{Reply}
-use Rattle.options_machine.specs.declared.reply.Request.{Request}
 use Rattle.options_machine.specs.Own.{brings_seat}
 use Rattle.options_machine.specs.Rules.{Rules}
 use Rattle.options_machine.specs.Run.{AsksForSet, IsRun, after}
@@ -21,7 +20,7 @@ use Rattle.stat_board.specs.Fronts.{longer}
 use Rattle.stat_board.specs.Rule.{Posted}
 use Rattle.stat_board.specs.Shows.{HasNumbers}
 use Rattle.desk_book.specs.declared.book.DeskBook.{DeskBook}
-use Rattle.desk_book.specs.Standing.{Call, Runs, Shows, Stands, at, entries_of, entry_of, law_of, used_at}
+use Rattle.desk_book.specs.Standing.{Call, Runs, Shows, Stands, at, entries_of, entry_of, law_of}
 use Rattle.desk_book.proofs.Notes.{Posts, entries_longer, noted_at, opening_kept, shows_more}
 
 pub grants_longer : (h : List Entry) (e : Entry) → grants (h ++ e ∷ []) ≡ grants h + cond (brings_seat e.reply) 1 0
@@ -103,7 +102,7 @@ pub record IsStep (old new : DeskBook) (c : Call) (moment : ℕ) : Type 0 where
   pub stepped : (c.answer.reply, new.book.state) ≡ step old.book.sets old.book.state c.request moment
   pub used_is : c.used ≡ new.book.state.now
   pub same : new.book.sets ≡ old.book.sets
-  pub counted : new.grants ≡ (old.grants + cond (brings_seat c.answer.reply) 1 0) % 2 ^ 64
+  pub counted : new.book.grants ≡ (old.book.grants + cond (brings_seat c.answer.reply) 1 0) % 2 ^ 64
   pub logged : (h : List Entry) → old.log.pushed ≡ take most h → new.log.pushed ≡ take most (h ++ entry_of c ∷ [])
   pub cut_is : (h : List Entry) → old.log.pushed ≡ take most h → old.cut ≡ nat_lt most (length h) → new.cut ≡ nat_lt most (length (h ++ entry_of c ∷ []))
   pub posts : Posts old.board (entry_of c) new.board

@@ -1,5 +1,5 @@
 -- What a desk's book stands for, and its runs.
-use Rattle.std.specs.Prelude.{◌≡◌, ℕ, ◌+◌, ◌%◌, ◌^◌, ◌<◌, ◌≤◌, Bool, true, nat_lt, List, [], length, map, min, take, slice_get, Some}
+use Rattle.std.specs.Prelude.{◌≡◌, ℕ, ◌+◌, ◌%◌, ◌^◌, ◌<◌, ◌≤◌, true, nat_lt, List, [], length, map, min, take, slice_get, Some}
 use Rattle.audit_log.specs.Rule.{most}
 use Rattle.counter.specs.Account.{grants}
 use Rattle.options_machine.specs.declared.reply.Entry.{Entry}
@@ -65,7 +65,7 @@ pub record Shows (b : Posted) (h : List Call) : Type 0 where
 -- the book has the state after these calls, of which so many brought a seat; the first of them are in the log, and the board shows them
 pub record Stands (b : DeskBook) (h : List Call) : Type 0 where
   pub state : b.book.state ≡ after b.book.sets (entries_of h)
-  pub grants_is : b.grants ≡ grants (entries_of h) % 2 ^ 64
+  pub grants_is : b.book.grants ≡ grants (entries_of h) % 2 ^ 64
   pub logged : b.log.pushed ≡ take most (entries_of h)
   pub cut_is : b.cut ≡ nat_lt most (length (entries_of h))
   pub board_shows : Shows b.board h

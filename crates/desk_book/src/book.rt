@@ -1,12 +1,12 @@
 //! The value behind a desk's lock, and its step.
-ghost use Rattle.std.specs.Prelude.{◌≡◌, ◌<◌, ◌+◌, ◌%◌, ◌^◌, true, if◌then◌else◌};
-ghost use Rattle.options_machine.specs.Own.{brings_seat};
+ghost use Rattle.std.specs.Prelude.{◌≡◌, ◌<◌, ◌^◌, true};
 ghost use Rattle.options_machine.specs.Run.{after};
 
 use crate::logging::log_entry;
 use audit_log::{LogPush, QueueId};
 use options_machine::{Entry, Reply, Request};
-use policy::{DeskRules, PlainBook};
+use policy::DeskRules;
+use seat_book::Book;
 use stat_board::{Board, BoardNote};
 use std::collections::LinkedList;
 use std::sync::Wait;
@@ -36,26 +36,14 @@ pub struct NotedReply {
 
 /// A book with its log and its board. It can't be dropped, since the board can't: [`DeskBook::end`] ends it.
 pub struct DeskBook {
-    pub(crate) book: PlainBook,
+    pub(crate) book: Book,
     pub(crate) log: LogPush,
     // Whether more entries were made than the log keeps.
     pub(crate) cut: bool,
-    // How many replies brought a seat, modulo 2^64.
-    pub(crate) grants: u64,
     pub(crate) board: Board,
     ghost small: { book.state.now < 2 ^ 40 },
     ghost sets: { board.front.sets ≡ book.sets },
     ghost shown: { board.live ≡ true → book.state ≡ after book.sets board.front.list },
-}
-
-// One more where the reply brings a seat, modulo 2^64.
-fn counted(grants: u64, reply: &Reply) -> u64
-    ensures { result ≡ (grants + (if brings_seat reply.now then 1 else 0)) % 2 ^ 64 }
-{
-    match reply {
-        Reply::Granted(_) | Reply::Retaken(_) => grants.wrapping_add(1),
-        _ => grants,
-    }
 }
 
 impl Kept for DeskBook {
@@ -86,7 +74,6 @@ impl Kept for DeskBook {
             moment: used,
             reply,
         };
-        self.grants = counted(self.grants, &reply);
         self.cut = log_entry(rt, &mut self.log, &entry, self.cut);
         self.board.publish(rt, &entry, self.book.glance(0));
         let answer = NotedReply {

@@ -97,15 +97,15 @@ fn end<R: Wait>(rt: &R, book: DeskBook, take: LogTake, calls: u64) -> Closed
     requires queue { take.queue ≡ book.log.queue }
     ensures entries { result.log.entries.items ≡ book.log.pushed }
     ensures cut { result.log.cut ≡ book.cut }
-    ensures numbers { (result.calls ≡ calls) × (result.grants ≡ book.grants) }
+    ensures numbers { (result.calls ≡ calls) × (result.grants ≡ book.book.grants) }
 {
     let DeskBook {
-        book: _,
+        book,
         log,
         cut,
-        grants,
         board,
     } = book;
+    let grants = book.grants();
     board.end(rt);
     let mut take = take;
     take.finish(rt, log);
@@ -122,7 +122,6 @@ pub(crate) fn discard<R: Wait>(rt: &R, book: DeskBook) {
         book: _,
         log: _,
         cut: _,
-        grants: _,
         board,
     } = book;
     board.end(rt);

@@ -11,7 +11,8 @@ use crate::end::{Keeper, discard};
 use crate::pass::BookPass;
 use audit_log::{LogTake, log_queue};
 use no_memory::NoMemory;
-use policy::{DeskRules, PlainBook};
+use policy::DeskRules;
+use seat_book::Book;
 use stat_board::{Board, BoardPass, Ruling};
 use std::alloc::Global;
 use std::sync::Wait;
@@ -20,7 +21,7 @@ use turn_lock::{TurnPass, Turns};
 /// Tells the rule sets of a book. It has no values.
 pub enum SetsOf {}
 
-impl Ruling<PlainBook> for SetsOf {
+impl Ruling<Book> for SetsOf {
     ghost sets = { λ b. b.sets };
 }
 
@@ -69,15 +70,14 @@ fn open_book<R: Wait>(
     ensures log { IfOk result (λ made. (made.1.queue ≡ (law_of made.0).queue) × (made.1.taken ≡ [])) }
     ensures board { IfOk result (λ made. (vec_len made.2 ≡ n) × All (λ p. p ≡ (law_of made.0).board) made.2.items) }
 {
-    let book = PlainBook::make_many(alloc, sets, n)?;
+    let book = Book::make_many(alloc, sets, n)?;
     let (log, take) = log_queue(alloc)?;
     let glance = book.glance(0);
-    let (board, views) = Board::make::<R, PlainBook, SetsOf>(rt, alloc, &book, glance, n)?;
+    let (board, views) = Board::make::<R, Book, SetsOf>(rt, alloc, &book, glance, n)?;
     let made = DeskBook {
         book,
         log,
         cut: false,
-        grants: 0,
         board,
     };
     Ok((made, take, views))

@@ -5,3 +5,4 @@ mod Asked
 mod Pairs
 mod Splits
 mod Ends
+pub mod Crossing

@@ -1,9 +1,16 @@
 use Rattle.std.proofs.Common.{◌≡◌, sym, subst, slice_index_or, vec_items}
-use denote.Param.Send.{sendable}
+use mathlib.Core.List.{[], ◌∷◌}
+use denote.Exit.{yes}
+use denote.Param.Send.{sendable, shr_sync}
 use Rattle.feature_desk.specs.Sitters.{IsOf, account_of}
+use Rattle.feature_desk.proofs.Crossing.{closure_sync, desk_sync}
+use Rattle.office_view.proofs.OfficeView.TheSendSync as view
 use Rattle.session.specs.Pass.{AreIdle, AreOf}
 use Rattle.daemon_run.specs.Work.{Worked}
 use Rattle.daemon_run.proofs.running.run_slice.Goals as goal
+
+pub for_each_mut-requires-sync-F : goal.for_each_mut-requires-sync-F
+for_each_mut-requires-sync-F g c κs within = closure_sync 2 _ yes _ (_ ∷ _ ∷ []) (shr_sync _ _ _ c.type_bounds.sync-R, (shr_sync _ _ _ (view.the_sync _ desk_sync), tt))
 
 pub for_each_mut-requires-clause-accepts : goal.for_each_mut-requires-clause-accepts
 for_each_mut-requires-clause-accepts g c κs within = λ i p l e. (

@@ -1,7 +1,4 @@
-use Rattle.std.proofs.Common.{◌≡◌, sym, ap, ◌∙◌, subst, arith}
-use Rattle.turn_lock.specs.Passes.{LockId}
-use Rattle.desk_book.specs.declared.book.DeskLaw.{DeskLaw}
-use Rattle.desk_book.specs.Askers.{Asker, Ticket}
+use Rattle.std.proofs.Common.{arith}
 use Rattle.desk_book.proofs.Closings.{as_many, locks_are, tells}
 use Rattle.desk_book.proofs.end.close_book.Goals as goal
 

@@ -1,4 +1,4 @@
-use Rattle.std.proofs.Common.{◌≡◌, ℕ, ◌∷◌, ◌++◌, [], length, length-append, append_assoc, sym, ap, ◌∙◌, subst, arith}
+use Rattle.std.proofs.Common.{◌∷◌, ◌++◌, [], length, length-append, append_assoc, sym, ap, ◌∙◌, subst, arith}
 use Rattle.desk_book.specs.Ends.{AreTickets}
 use Rattle.desk_book.proofs.Closings.{as_many, tickets_on}
 use Rattle.desk_book.proofs.end.collect.Goals as goal

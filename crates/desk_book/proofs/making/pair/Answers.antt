@@ -3,7 +3,7 @@ use Rattle.stat_board.specs.Fronts.{Front}
 use Rattle.pass_roles.proofs.Members.{all_cut, front_of}
 use Rattle.turn_lock.specs.Passes.{Lock, unused}
 use Rattle.desk_book.specs.declared.book.DeskLaw.{DeskLaw}
-use Rattle.desk_book.specs.Askers.{Asker, Ticket, asker_of, newcomer}
+use Rattle.desk_book.specs.Askers.{Asker, asker_of, newcomer}
 use Rattle.desk_book.proofs.Pairs.{all_made, newcomers, one_more, popped_is, popped_left}
 use Rattle.desk_book.proofs.making.pair.Goals as goal
 

@@ -1,8 +1,16 @@
+use mathlib.Core.List.{[], ◌∷◌}
+use denote.Exit.{yes}
+use denote.Param.Send.{shr_sync}
 use Rattle.std.proofs.Common.{sym, subst, slice_index_or}
 use Rattle.feature_desk.specs.Sitters.{IsOf, account_of}
+use Rattle.feature_desk.proofs.Crossing.{closure_sync, desk_sync}
+use Rattle.office_view.proofs.OfficeView.TheSendSync as view
 use Rattle.session.specs.Pass.{AreIdle, AreOf}
 use Rattle.trial_run.specs.Played.{Played}
 use Rattle.trial_run.proofs.playing.play_slice.Goals as goal
+
+pub for_each_mut-requires-sync-F : goal.for_each_mut-requires-sync-F
+for_each_mut-requires-sync-F g c κs within = closure_sync 2 _ yes _ (_ ∷ _ ∷ []) (shr_sync _ _ _ c.type_bounds.sync-R, (shr_sync _ _ _ (view.the_sync _ desk_sync), tt))
 
 pub for_each_mut-requires-clause-accepts : goal.for_each_mut-requires-clause-accepts
 for_each_mut-requires-clause-accepts g c κs within = λ i p l e. (

@@ -1,8 +1,6 @@
 -- h: what the book stood for before; run: that it was a run
-use Rattle.std.proofs.Common.{◌≡◌, sym, ◌∙◌, true, List, ◌++◌, ◌∷◌, []}
+use Rattle.std.proofs.Common.{sym}
 use Rattle.options_machine.specs.declared.reply.Entry.{Entry}
-use Rattle.options_machine.specs.Run.{after}
-use Rattle.desk_book.specs.Standing.{Call}
 use Rattle.desk_book.proofs.Steps.{board_next, numbers_next, runs_more, stands_more, state_next, used_moment}
 use Rattle.desk_book.proofs.book.DeskBookKept.step.Goals as goal
 
@@ -29,7 +27,7 @@ pub returns-clause-stands : goal.returns-clause-stands
 returns-clause-stands g c h stood run =
     let s = c.step-reply.ensures in
     stands_more c.args.self.now _ (record { request = c.args.request.now; used = c.step-reply.result.1; answer = record { reply = c.step-reply.result.0; note = c.note.result } }) c.args.moment h
-    (record { stepped = s.step; used_is = s.moment; same = s.same.0; counted = c.counted-self.ensures; logged = c.log_entry-self.ensures.logged; cut_is = c.log_entry-self.ensures.cut; posts = c.publish.ensures; note = c.note.ensures }) stood
+    (record { stepped = s.step; used_is = s.moment; same = s.same.0; counted = s.grants; logged = c.log_entry-self.ensures.logged; cut_is = c.log_entry-self.ensures.cut; posts = c.publish.ensures; note = c.note.ensures }) stood
 
 pub returns-clause-runs : goal.returns-clause-runs
 returns-clause-runs g c h stood run =

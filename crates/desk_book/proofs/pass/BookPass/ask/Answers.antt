@@ -1,7 +1,6 @@
 use Rattle.std.proofs.Common.{◌≡◌, ◌++◌, length, refl, sym, ap, subst, arith, ◌∙◌}
 use Rattle.options_machine.specs.Run.{AsksForSet}
 use Rattle.turn_lock.specs.Entries.{entry}
-use Rattle.desk_book.specs.declared.book.NotedReply.{NotedReply}
 use Rattle.desk_book.specs.Askers.{Asker, IsInformed, Makes, asker_of}
 use Rattle.desk_book.specs.Standing.{Call, entries_of}
 use Rattle.desk_book.proofs.Askers.{board_grows, informed_now, makes, same_board}

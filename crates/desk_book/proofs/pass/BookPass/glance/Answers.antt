@@ -1,4 +1,4 @@
-use Rattle.std.proofs.Common.{◌≡◌, List, ap, ◌∙◌}
+use Rattle.std.proofs.Common.{List, ap, ◌∙◌}
 use Rattle.counter.specs.Glances.{glance_of}
 use Rattle.options_machine.specs.Rules.{Rules}
 use Rattle.desk_book.proofs.pass.BookPass.glance.Goals as goal
