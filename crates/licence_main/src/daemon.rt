@@ -101,8 +101,8 @@ pub fn serve_terms<R: Threads + Wait + Sync, O: Sink, S: Site>(
     let Ok(made) = Office::make_many(rt, alloc, &terms.licence, sets, sessions) else {
         return NO_MEMORY;
     };
-    let (office, passes) = made;
+    let (office, passes, logs) = made;
     tell_pools(&terms.licence, &office);
-    let ended = serve(rt, office, passes, workers, site, names.socket);
+    let ended = serve(rt, office, passes, logs, workers, site, names.socket);
     write_end(out, &ended, &mut buffer)
 }

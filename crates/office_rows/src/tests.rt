@@ -1,8 +1,10 @@
 //! What a session of the first of two parties says and is told, how it ends, and which entries it makes.
 ghost use Rattle.std.specs.Prelude.{◌≡◌, ◌<◌, All, IfOk, length, vec_len};
+ghost use Rattle.licence_office.specs.Logs.{AreLogsOf};
 ghost use Rattle.licence_office.specs.Offices.{AreAt, AreDealt};
 ghost use Rattle.office_rows.specs.Ready.{HasSets, IsReady};
 
+mod auditors;
 mod daemons;
 mod glances;
 mod offices;
@@ -10,7 +12,7 @@ mod offices;
 use feature_desk::Desk;
 use feature_lines::read_licence;
 use lic_types::Name;
-use licence_office::{Office, OfficeEnd, OfficePass};
+use licence_office::{Office, OfficeEnd, OfficeLogs, OfficePass};
 use office_view::OfficeView;
 use options_machine::{Charge, Kind, Reply};
 use options_text::read_options;
@@ -126,10 +128,11 @@ fn office_of(
     rt: &(impl Abort + Wait + AllocGlobal),
     licence: &[u8],
     files: &[&[u8]],
-) -> Result<(Office, Vec<OfficePass>), Fail>
+) -> Result<(Office, Vec<OfficePass>, OfficeLogs), Fail>
     ensures count { IfOk result (λ made. (vec_len made.1 ≡ 2) × (made.0.parties ≡ 2)) }
     ensures sets { IfOk result (λ made. HasSets made.0.view) }
     ensures dealt { IfOk result (λ made. AreDealt made.0.view.desks made.1.items) }
+    ensures logs { IfOk result (λ made. AreLogsOf made.2 made.0) }
 {
     let alloc = rt.alloc();
     assert!(rt; licence.len() < 1 << 32);
@@ -215,9 +218,9 @@ fn entries_of(
 fn play(rt: &(impl Abort + AllocGlobal + Wait), row: &Row<'_>, failing: u64) -> Result<bool, Fail> {
     let mut one = outside_of(rt, row.dialogue, failing, row.moments)?;
     let mut next = outside_of(rt, NEXT, u64::MAX, row.moments)?;
-    let (office, mut passes) = office_of(rt, row.licence, row.files)?;
+    let (office, mut passes, logs) = office_of(rt, row.licence, row.files)?;
     let ends = serve_two(rt, &office, &mut passes, &mut one, &mut next);
-    let told = office.close_with_log(rt, passes);
+    let told = office.close_with_log(rt, passes, logs);
     let whole = said(rt, row.dialogue)?;
     assert!(rt; whole.starts_with(one.link.talk.bytes.as_slice()));
     assert!(rt; next.link.talk.bytes.starts_with(said(rt, NEXT)?.as_slice()));

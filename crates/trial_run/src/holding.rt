@@ -4,6 +4,7 @@ ghost use Rattle.daemon_outside.specs.Sites.{IsNew};
 ghost use Rattle.daemon_run.specs.Gives.{kept_from, no_sessions, passes_of};
 ghost use Rattle.daemon_run.specs.Join.{HasSets};
 ghost use Rattle.feature_desk.specs.Sitters.{DeskView, account_of, newcomer};
+ghost use Rattle.licence_office.specs.Logs.{AreLogsOf};
 ghost use Rattle.licence_office.specs.Offices.{AreAt, AreDealt};
 ghost use Rattle.session.specs.Session.{setup_of};
 ghost use Rattle.session_outside.specs.Talk.{Follows, HasRisen};
@@ -17,7 +18,7 @@ use crate::playing::play_all;
 use daemon_outside::{Site, SiteFailed};
 use daemon_run::{Worker, give_back, post_all};
 use feature_desk::Desk;
-use licence_office::{Office, OfficePass};
+use licence_office::{Office, OfficeLogs, OfficePass};
 use office_view::OfficeView;
 use std::sync::Wait;
 use std::thread::Threads;
@@ -51,16 +52,18 @@ fn close<R: Wait>(
     office: Office,
     players: Vec<Player>,
     mut passes: Vec<OfficePass>,
+    logs: OfficeLogs,
 ) -> Trial
     requires count { vec_len players ≡ office.parties }
     requires one { length office.view.desks ≡ 1 }
     requires ready { All (λ w. AreAt office.view.desks w.counters.items) players.items }
+    requires logs { AreLogsOf logs office }
     requires empty { passes.items ≡ [] }
     requires room { vec_len players ≤ vec_capacity passes }
     ensures { (d : DeskView) → HasClosed (get_or office.view.desks 0 d) (counters_of players.items) result }
 {
     take_counters(players, &mut passes);
-    let tallies = office.close(rt, passes);
+    let tallies = office.close(rt, passes, logs);
     let tally = &tallies[0];
     Trial {
         grants: tally.grants,
@@ -75,6 +78,7 @@ fn hold_all<R: Threads + Wait + Sync, T: Site>(
     mut workers: Workers<T>,
     mut players: Vec<Player>,
     passes: Vec<OfficePass>,
+    logs: OfficeLogs,
     site: &mut T,
 ) -> Trial
     requires some { 0 < vec_len workers }
@@ -84,6 +88,7 @@ fn hold_all<R: Threads + Wait + Sync, T: Site>(
     requires dealt { AreDealt office.view.desks (counters_of (passes_of workers.items)) }
     requires unused { All (λ w. IsNew T.Door.talks T.Clock.gave T.Door.faults T.Door.quiets T.Door.fails T.Door.lent T.Bell.tolls T.Bell.rings w.post.door w.post.clock w.post.bell) workers.items }
     requires fresh { All (λ w. IsFresh w.pass.link) workers.items }
+    requires logs { AreLogsOf logs office }
     requires empty { (players.items ≡ []) × (passes.items ≡ []) }
     requires room { (vec_len workers ≤ vec_capacity players) × (vec_len workers ≤ vec_capacity passes) }
     requires posted { vec_len workers ≤ T.posted site.old }
@@ -96,7 +101,7 @@ fn hold_all<R: Threads + Wait + Sync, T: Site>(
     pair(view);
     play_all(rt, view, &mut workers);
     give_back(site, workers, &mut players);
-    close(rt, office, players, passes)
+    close(rt, office, players, passes, logs)
 }
 
 /// Makes a post of the site for each client, lets all clients play at once, gives the posts back, and closes the office. It takes
@@ -111,6 +116,7 @@ pub(crate) fn hold<R: Threads + Wait + Sync, T: Site>(
     mut players: Vec<Player>,
     mut workers: Workers<T>,
     passes: Vec<OfficePass>,
+    logs: OfficeLogs,
     site: &mut T,
 ) -> Result<Trial, SiteFailed>
     requires some { 0 < vec_len players }
@@ -119,6 +125,7 @@ pub(crate) fn hold<R: Threads + Wait + Sync, T: Site>(
     requires sets { HasSets office.view }
     requires dealt { AreDealt office.view.desks (counters_of players.items) }
     requires fresh { All (λ w. IsFresh w.link) players.items }
+    requires logs { AreLogsOf logs office }
     requires empty { (workers.items ≡ []) × (passes.items ≡ []) }
     requires room { (vec_len players ≤ vec_capacity workers) × (vec_len players ≤ vec_capacity passes) }
     ensures posted { T.posted site.new ≡ T.posted site.old }
@@ -132,8 +139,8 @@ pub(crate) fn hold<R: Threads + Wait + Sync, T: Site>(
     pair(view);
     let Ok(_) = post_all(site, &mut players, &mut workers) else {
         give_back(site, workers, &mut players);
-        let _trial = close(rt, office, players, passes);
+        let _trial = close(rt, office, players, passes, logs);
         return Err(SiteFailed);
     };
-    Ok(hold_all(rt, office, workers, players, passes, site))
+    Ok(hold_all(rt, office, workers, players, passes, logs, site))
 }

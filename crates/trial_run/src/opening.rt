@@ -87,7 +87,7 @@ pub fn try_out<R: Threads + Wait + Sync, T: Site>(
     let links = links(alloc, clients, rounds)?;
     let mut players = Vec::with_capacity(alloc, room)?;
     let workers = Vec::with_capacity(alloc, room)?;
-    let (office, mut passes) = Office::make(rt, alloc, &licence, &options, clients)?;
+    let (office, mut passes, logs) = Office::make(rt, alloc, &licence, &options, clients)?;
     seat(&mut passes, links, &mut players);
-    Ok(hold(rt, office, players, workers, passes, site)?)
+    Ok(hold(rt, office, players, workers, passes, logs, site)?)
 }

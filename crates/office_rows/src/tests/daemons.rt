@@ -1,5 +1,6 @@
 //! A daemon at a site in memory, over an office of two pools.
 ghost use Rattle.std.specs.Prelude.{◌≡◌, IfOk, vec_len};
+ghost use Rattle.licence_office.specs.Logs.{AreLogsOf};
 ghost use Rattle.licence_office.specs.Offices.{AreDealt};
 ghost use Rattle.daemon_run.specs.Join.{HasSets};
 
@@ -8,7 +9,7 @@ mod site;
 use daemon_outside::Site;
 use daemon_run::{Ended, serve};
 use feature_lines::read_licence;
-use licence_office::{Office, OfficeEnd, OfficePass};
+use licence_office::{Office, OfficeEnd, OfficeLogs, OfficePass};
 use options_text::read_options;
 use site::TextSite;
 use std::process::Abort;
@@ -24,10 +25,13 @@ const WORKS: &[u8] = b"HELLO ann h1 d1 p1\nCHECKOUT draft 2.0\nQUIT\n";
 const SHUTS: &[u8] = b"SHUTDOWN\n";
 
 /// An office of two pools for two parties, without options.
-fn office_of(rt: &(impl Abort + Wait + AllocGlobal)) -> Result<(Office, Vec<OfficePass>), Fail>
+pub fn office_of(
+    rt: &(impl Abort + Wait + AllocGlobal),
+) -> Result<(Office, Vec<OfficePass>, OfficeLogs), Fail>
     ensures count { IfOk result (λ made. (vec_len made.1 ≡ 2) × (made.0.parties ≡ 2)) }
     ensures sets { IfOk result (λ made. HasSets made.0.view) }
     ensures dealt { IfOk result (λ made. AreDealt made.0.view.desks made.1.items) }
+    ensures logs { IfOk result (λ made. AreLogsOf made.2 made.0) }
 {
     let alloc = rt.alloc();
     assert!(rt; TWO_POOLS.len() < 1 << 32);
@@ -42,8 +46,8 @@ pub fn serve_two(
     site: &mut impl Site,
 ) -> Result<Ended, Fail> {
     let workers = Vec::with_capacity(rt.alloc(), 2)?;
-    let (office, passes) = office_of(rt)?;
-    Ok(serve(rt, office, passes, workers, site, "licenced"))
+    let (office, passes, logs) = office_of(rt)?;
+    Ok(serve(rt, office, passes, logs, workers, site, "licenced"))
 }
 
 #[test]

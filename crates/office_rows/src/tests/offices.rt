@@ -4,13 +4,14 @@ ghost use Rattle.options_machine.specs.Run.{IsBelow};
 ghost use Rattle.options_machine.specs.Step.{set_asked};
 ghost use Rattle.feature_desk.specs.Closings.{Rests};
 ghost use Rattle.feature_desk.specs.Sitters.{IsOf};
+ghost use Rattle.licence_office.specs.Logs.{AreLogsOf};
 ghost use Rattle.licence_office.specs.Offices.{AreAt};
 
 use counter::Counter;
 use feature_desk::{Desk, DeskPass, DeskTally};
 use feature_lines::{Found, read_licence};
 use lic_types::{Client, Name, Version};
-use licence_office::{Office, OfficePass};
+use licence_office::{Office, OfficeLogs, OfficePass};
 use options_machine::Kind;
 use options_text::read_options;
 use std::process::Abort;
@@ -56,10 +57,11 @@ fn office_of(
     licence: &[u8],
     options: &[u8],
     parties: u32,
-) -> Result<(Office, Vec<OfficePass>), Fail>
+) -> Result<(Office, Vec<OfficePass>, OfficeLogs), Fail>
     requires { (2 ≤ parties) × (parties ≤ 256) }
     ensures count { IfOk result (λ made. (made.0.parties ≡ parties) × (vec_len made.1 ≡ parties)) }
     ensures ready { IfOk result (λ made. All (λ p. AreAt made.0.view.desks p.items) made.1.items) }
+    ensures logs { IfOk result (λ made. AreLogsOf made.2 made.0) }
 {
     let alloc = rt.alloc();
     assert!(rt; licence.len() < 1 << 32);
@@ -142,14 +144,14 @@ fn each_desk_tells_its_own_numbers_and_log(rt: HostRuntime) -> Result<(), Fail> 
         display: Name::read(b"d1")?,
         project: Name::read(b"p1")?,
     };
-    let (office, mut passes) = office_of(&rt, TWO_POOLS, b"", 2)?;
+    let (office, mut passes, logs) = office_of(&rt, TWO_POOLS, b"", 2)?;
     assert_eq!(rt; office.view().pools().len(), 2);
     let (one, two) = all_meet(&rt, &office, &mut passes, &ann);
     assert_eq!(rt;
         (one.is_some(), two.is_some(), one == two),
         (true, true, false)
     );
-    let end = office.close_with_log(&rt, passes);
+    let end = office.close_with_log(&rt, passes, logs);
     let draft = DeskTally {
         calls: 4,
         grants: 2,
@@ -172,7 +174,7 @@ fn a_site_has_a_desk_for_each_pool(rt: HostRuntime) -> Result<(), Fail> {
     let version = Version {
         key: 2_023_000_000_000,
     };
-    let (office, passes) = office_of(&rt, SITE, SITE_OPTIONS, 16)?;
+    let (office, passes, logs) = office_of(&rt, SITE, SITE_OPTIONS, 16)?;
     let view = office.view();
     assert_eq!(rt;
         (view.pools().len(), view.sets(), office.parties()),
@@ -181,7 +183,7 @@ fn a_site_has_a_desk_for_each_pool(rt: HostRuntime) -> Result<(), Fail> {
     assert!(rt; view.route(&edit, version, NEW_YEAR - 1) == Found::Pool(0));
     assert!(rt; view.route(&edit, version, NEW_YEAR) == Found::Pool(1));
     assert!(rt; view.route(&solve, version, NEW_YEAR) == Found::Pool(5));
-    let tallies = office.close(&rt, passes);
+    let tallies = office.close(&rt, passes, logs);
     assert_eq!(rt; tallies.len(), 10);
     Ok(())
 }
