@@ -83,6 +83,7 @@ fn auditor_runs(rt: HostRuntime) -> Result<(), Fail> {
     let Ended::Served(OfficeEnd { tallies, logs }) = ended else {
         panic!(rt; "the bell is heard at each door");
     };
+    assert_eq!(rt; (tallies.len(), logs.len()), (2, 2));
     assert_eq!(rt; missed.load(Ordering::SeqCst), 0);
     assert_eq!(rt; taken.load(Ordering::SeqCst), 2);
     let mut kinds = logs[0].entries.iter().map(|entry| entry.request.kind);
