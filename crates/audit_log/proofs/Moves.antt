@@ -7,7 +7,8 @@ use Rattle.crossbeam_queue.specs.Fifo.{Pushes, Pops, Forks, Held, Merges, Learns
 use Rattle.crossbeam_queue.proofs.Lists.{at_set, at_snoc}
 use Rattle.options_machine.specs.declared.reply.Entry.{Entry}
 use Rattle.audit_log.specs.declared.ends.Knows.{Knows}
-use Rattle.audit_log.specs.Rule.{Fits, HoldsNoMore, HoldsRest, IsInOrder, Pushed, Taken, TakenNext, knows, most, pusher_of, spent, taker_of, together}
+use Rattle.audit_log.specs.Rule.{Fits, HoldsNoMore, HoldsRest, IsInOrder, Pushed, Taken, TakenNext, knows, pusher_of, spent, taker_of, together}
+use Rattle.audit_log.specs.declared.queue.TheConstants.{ENTRY_LIMIT}
 
 at_end : (views : List Knows) (a b : Knows) (j : ℕ) → get_elem? views j ≢ some b → get_elem? (views ++ a ∷ []) j ≡ some b → j ≡ length views
 at_end [] a b zero n e = refl
@@ -35,7 +36,7 @@ begins = record {
       (λ j u other e. absurd (other (at_end [] _ u j (λ x. some-ne-none u (sym x)) e)));
 }
 
-pub pushes : (n end : ℕ) (v : Knows) (x : Entry) → v.pushes ≡ true → length v.pushed < most → Pushes IsInOrder n end v x (Pushed v x)
+pub pushes : (n end : ℕ) (v : Knows) (x : Entry) → v.pushes ≡ true → length v.pushed < ENTRY_LIMIT → Pushes IsInOrder n end v x (Pushed v x)
 pushes n end v x may few items views room h at = let w : Knows = knows v.pushes v.takes (v.pushed ++ x ∷ []) v.taken in let mine = h.ends end v at in let own = mine.pushes may in (
   w,
   record {
@@ -53,7 +54,7 @@ pushes n end v x may few items views room h at = let w : Knows = knows v.pushes 
 )
 
 -- what was taken, with the next one, is no more than was pushed
-taken_few : (pushed taken items : List Entry) (x : Entry) → pushed ≡ taken ++ x ∷ items → length pushed ≤ most → length (taken ++ x ∷ []) ≤ most
+taken_few : (pushed taken items : List Entry) (x : Entry) → pushed ≡ taken ++ x ∷ items → length pushed ≤ ENTRY_LIMIT → length (taken ++ x ∷ []) ≤ ENTRY_LIMIT
 taken_few pushed taken items x order few = let n = ap length order in omega (arith, length-append taken (x ∷ items), length-append taken (x ∷ []))
 
 pub takes : (end : ℕ) (v : Knows) → v.takes ≡ true → Pops IsInOrder end v (λ x. Taken v x)
@@ -120,7 +121,7 @@ pub holds_rest : (end : ℕ) (v : Knows) → v.pushes ≡ true → v.takes ≡ t
 holds_rest end v a b items views h at = let mine = h.ends end v at in (mine.pushes a).1 ∙ h.order ∙ ap (λ l. l ++ items) (sym (mine.takes b).1)
 
 -- no queue of so many places holds what is fewer
-pub never_full : (pushed : List Entry) → length pushed < most → Held most (λ items. (taken : List Entry) × (pushed ≡ taken ++ items)) → ⊥
+pub never_full : (pushed : List Entry) → length pushed < ENTRY_LIMIT → Held ENTRY_LIMIT (λ items. (taken : List Entry) × (pushed ≡ taken ++ items)) → ⊥
 never_full pushed few full = let n = ap length full.2.1 in omega (arith, length-append full.2.0 full.0, full.1)
 
 -- all was taken where no fewer entries were taken than were pushed

@@ -1,5 +1,6 @@
 use Rattle.std.specs.Prelude.{ℕ, ◌^◌, nat_eq, if◌then◌else◌, List, [], ◌∷◌, ◌++◌, Option, None, Some, Result, Ok, Err, codes, decimal, ◌==◌}
 use Rattle.std.specs.Cmp.Lexicographic.{pointwise}
+use Rattle.lic_types.specs.declared.limits.TheConstants.{MOMENT_END, PARTY_LIMIT}
 use Rattle.lic_text.specs.Lines.{Worded}
 use Rattle.lic_text.specs.Number.{number_of}
 use Rattle.lic_text.specs.declared.fault.TextFault.{TextFault}
@@ -92,8 +93,8 @@ abbrev pub fields_of : List (List ℕ) → Result Logged ScriptWord
 fields_of (pool ∷ place ∷ moment ∷ party ∷ user ∷ host ∷ display ∷ project ∷ word ∷ head ∷ others) =
     and_then (below (2 ^ 32) (number_of pool)) (λ i.
     and_then (place_of place) (λ at.
-    and_then (below (2 ^ 40) (number_of moment)) (λ used.
-    and_then (below 256 (number_of party)) (λ asker.
+    and_then (below MOMENT_END (number_of moment)) (λ used.
+    and_then (below PARTY_LIMIT (number_of party)) (λ asker.
     and_then (client_of user host display project) (λ client.
     and_then (kind_of word) (λ said.
     and_then (reply_of (head ∷ others)) (λ answer.

@@ -6,7 +6,8 @@ use Rattle.options_machine.specs.declared.reply.Entry.{Entry}
 use Rattle.std.specs.Prelude.{Option}
 use Rattle.audit_log.specs.Log.{Pusher}
 use Rattle.audit_log.specs.declared.ends.Knows.{Knows}
-use Rattle.audit_log.specs.Rule.{knows, most}
+use Rattle.audit_log.specs.Rule.{knows}
+use Rattle.audit_log.specs.declared.queue.TheConstants.{ENTRY_LIMIT}
 
 -- what is seen of the end that pushes
 abbrev pub pusher_at : Pass Entry Knows → Pusher
@@ -16,14 +17,14 @@ module _ {Q A : Type 0} where
   -- what the end that pushes keeps: it has pushed so many
   pub record Pushes (queue : Slotted (Option Entry) (Doing Entry Knows) Q A) (end : Pass Entry Knows) (count : ℕ) : Type 0 where
     pub pass : IsPassOf queue end
-    pub room : ruled_capacity queue ≡ most
+    pub room : ruled_capacity queue ≡ ENTRY_LIMIT
     pub knows_all : view end ≡ knows true false (view end).pushed []
     pub counted : count ≡ length (view end).pushed
-    pub few : count ≤ most
+    pub few : count ≤ ENTRY_LIMIT
 
   -- what the end that takes keeps: these are the entries that it took, and it has room for all
   pub record Takes (queue : Slotted (Option Entry) (Doing Entry Knows) Q A) (end : Pass Entry Knows) (entries : List Entry) (room : ℕ) : Type 0 where
     pub pass : IsPassOf queue end
     pub may : (view end).takes ≡ true
     pub took : (view end).taken ≡ entries
-    pub room_is : most ≤ room
+    pub room_is : ENTRY_LIMIT ≤ room

@@ -3,6 +3,7 @@ use Rattle.std.specs.List.{AllByRecursion}
 use Rattle.lic_text.specs.Lines.{lines_of, words_of}
 use Rattle.lic_types.specs.Name.{IsName}
 use Rattle.lic_types.specs.declared.client.Client.{Client}
+use Rattle.lic_types.specs.declared.limits.TheConstants.{MOMENT_END, PARTY_LIMIT}
 use Rattle.options_machine.specs.declared.reply.Charge.{Charge}
 use Rattle.options_machine.specs.declared.reply.Charge.TheVariants.{Reserve, Open}
 use Rattle.options_machine.specs.declared.reply.Entry.{Entry}
@@ -49,8 +50,8 @@ pub record RepliesReadBack : Type 0 where
 
 -- an entry whose numbers are of their fields, and which asks for a rule set exactly as its reply says
 pub record IsEntry (e : Entry) : Type 0 where
-  pub moment : e.moment < 2 ^ 40
-  pub party : e.request.party < 256
+  pub moment : e.moment < MOMENT_END
+  pub party : e.request.party < PARTY_LIMIT
   pub client : IsClient e.request.client
   pub answered : IsReply e.reply
   pub rereads : (set : ℕ) → e.request.kind ≡ kind.Reread set → e.reply ≡ reply.Reread set

@@ -1,7 +1,6 @@
 //! The queue that the entries of a log go through, as its two ends.
 ghost use Rattle.std.specs.Prelude.{◌≡◌, ◌<◌, List, ◌++◌, ◌∷◌, [], IfOk, MatchBool, length};
 ghost use Rattle.options_machine.specs.declared.reply.Entry.{Entry};
-ghost use Rattle.audit_log.specs.Rule.{most};
 
 use crate::ends::{Apart, End, LogQueue, Push, Take, TakeLeft, Together};
 use lic_types::NoMemory;
@@ -11,7 +10,7 @@ use std::marker::Model;
 use std::sync::{Arc, Wait};
 
 /// How many entries a log keeps.
-const MOST: usize = 4096;
+const ENTRY_LIMIT: usize = 4096;
 
 /// The end of a log's queue at which entries go in. One thread at a time has it.
 ///
@@ -79,8 +78,8 @@ pub fn log_queue(alloc: Global) -> Result<(LogPush, LogTake), NoMemory>
     ensures one { IfOk result (λ ends. ends.0.queue ≡ ends.1.queue) }
     ensures empty { IfOk result (λ ends. (ends.0.pushed ≡ []) × (ends.1.taken ≡ [])) }
 {
-    let entries = Vec::with_capacity(alloc, MOST)?;
-    let (queue, mut end) = LogQueue::ruled(alloc, MOST)?;
+    let entries = Vec::with_capacity(alloc, ENTRY_LIMIT)?;
+    let (queue, mut end) = LogQueue::ruled(alloc, ENTRY_LIMIT)?;
     let pushing = queue.another::<Apart>(&mut end);
     let queue = Arc::new(alloc, queue)?;
     let push = LogPush {
@@ -99,11 +98,11 @@ pub fn log_queue(alloc: Global) -> Result<(LogPush, LogTake), NoMemory>
 impl LogPush {
     /// Pushes an entry, unless 4,096 were pushed before: then it says false, and pushes none. It never meets a full queue, and takes no memory.
     pub fn push<R: Wait>(&mut self, rt: &R, entry: &Entry) -> bool
-        ensures pushed { MatchBool result ((length self.old.pushed < most) × (self.new.pushed ≡ self.old.pushed ++ entry.now ∷ []))
-            ((length self.old.pushed ≡ most) × (self.new.pushed ≡ self.old.pushed)) }
+        ensures pushed { MatchBool result ((length self.old.pushed < ENTRY_LIMIT) × (self.new.pushed ≡ self.old.pushed ++ entry.now ∷ []))
+            ((length self.old.pushed ≡ ENTRY_LIMIT) × (self.new.pushed ≡ self.old.pushed)) }
         ensures same { self.new.queue ≡ self.old.queue }
     {
-        if self.count >= MOST {
+        if self.count >= ENTRY_LIMIT {
             return false;
         }
         let Ok(()) = self.queue.push_as::<Push, R>(rt, &mut self.end, *entry) else {

@@ -1,22 +1,17 @@
 //! The lines of a log, read.
-ghost use Rattle.std.specs.Prelude.{◌≡◌, ◌<◌, ◌^◌, IfOk};
+ghost use Rattle.std.specs.Prelude.{◌≡◌, ◌<◌, IfOk};
 ghost use Rattle.lic_text.specs.Left.{worded, words_left};
 ghost use Rattle.audit_log.specs.Entries.{fields_of, kind_of, kind_with, logged_at, logged_of, place_of};
 ghost use Rattle.audit_log.specs.Summaries.{is_summary};
 
 use crate::reply_reading::read_reply;
 use lic_text::{Line, Words, number};
+use lic_types::{MOMENT_END, PARTY_LIMIT};
 use options_machine::{Entry, Kind, Reply, Request};
 use script_words::{ScriptFault, ScriptWord, next_word, read_below, read_client};
 
-/// Moments are below this, in seconds since 1970-01-01 UTC.
-const MOMENT_LIMIT: u64 = 1 << 40;
-
-/// Parties are below this.
-const PARTY_LIMIT: u64 = 256;
-
 /// The numbers of pools are below this.
-const POOL_LIMIT: u64 = 1 << 32;
+const POOL_END: u64 = 1 << 32;
 
 /// An entry of a log: at which place of which pool it was made.
 #[derive(Clone, Copy, Debug, PartialEq, Eq)]
@@ -87,7 +82,7 @@ fn read_place(word: &[u8]) -> Result<u64, ScriptWord>
 /// The entry that the words behind ENTRY spell.
 fn read_fields(words: Words<'_>) -> Result<Logged, ScriptWord>
     ensures read { result ≡ fields_of (words_left words.entry) }
-    ensures fit { IfOk result (λ logged. (logged.entry.moment < 2 ^ 40) × (logged.entry.request.party < 256)) }
+    ensures fit { IfOk result (λ logged. (logged.entry.moment < MOMENT_END) × (logged.entry.request.party < PARTY_LIMIT)) }
 {
     let mut words = words;
     let pool = next_word(&mut words)?;
@@ -100,10 +95,10 @@ fn read_fields(words: Words<'_>) -> Result<Logged, ScriptWord>
     let project = next_word(&mut words)?;
     let said = next_word(&mut words)?;
     let head = next_word(&mut words)?;
-    let pool = read_below(pool, POOL_LIMIT)?;
+    let pool = read_below(pool, POOL_END)?;
     let place = read_place(place)?;
-    let moment = read_below(moment, MOMENT_LIMIT)?;
-    let party = read_below(party, PARTY_LIMIT)?;
+    let moment = read_below(moment, MOMENT_END)?;
+    let party = read_below(party, PARTY_LIMIT as u64)?;
     let client = read_client(user, host, display, project)?;
     let said = read_kind(said)?;
     let reply = read_reply(head, words)?;
@@ -126,7 +121,7 @@ fn read_fields(words: Words<'_>) -> Result<Logged, ScriptWord>
 /// The entry that the words of a line spell, or the line's first fault.
 fn read_words(words: Words<'_>) -> Result<Logged, ScriptWord>
     ensures read { result ≡ logged_of (words_left words.entry) }
-    ensures fit { IfOk result (λ logged. (logged.entry.moment < 2 ^ 40) × (logged.entry.request.party < 256)) }
+    ensures fit { IfOk result (λ logged. (logged.entry.moment < MOMENT_END) × (logged.entry.request.party < PARTY_LIMIT)) }
 {
     let mut words = words;
     match words.next() {
@@ -161,7 +156,7 @@ pub fn is_summary(line: &Line<'_>) -> bool
 ///    REREAD and a number.
 pub fn read_entry(line: &Line<'_>) -> Result<Logged, ScriptFault>
     ensures read { result ≡ logged_at (worded line.now) }
-    ensures fit { IfOk result (λ logged. (logged.entry.moment < 2 ^ 40) × (logged.entry.request.party < 256)) }
+    ensures fit { IfOk result (λ logged. (logged.entry.moment < MOMENT_END) × (logged.entry.request.party < PARTY_LIMIT)) }
 {
     match read_words(line.words()) {
         Ok(logged) => Ok(logged),

@@ -5,7 +5,7 @@ ghost use Rattle.session_outside.specs.Talk.{Counted, Event, Follows};
 use session_outside::Link;
 
 /// A door is broken once so many accepts failed with no link between them.
-pub const MOST_FAILS: u64 = 1000;
+pub const FAIL_LIMIT: u64 = 1000;
 
 /// What an accept gives.
 #[derive(Debug, Drop)]

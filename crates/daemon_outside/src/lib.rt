@@ -8,7 +8,7 @@ mod memory;
 mod site;
 
 pub use bell::SharedBell;
-pub use door::{Came, Door, MOST_FAILS};
+pub use door::{Came, Door, FAIL_LIMIT};
 pub use memory::{Knock, MemDoor, MemPost, MemSite, Retired};
 pub use site::{Post, Site, SiteFailed};
 

@@ -6,7 +6,7 @@ ghost use Rattle.daemon_outside.specs.Memory.{KeepsEach, GaveMoments, TellsPost,
 ghost use Rattle.daemon_outside.specs.Sites.{Kept, was_heard};
 
 use crate::bell::SharedBell;
-use crate::door::{Came, Door, MOST_FAILS};
+use crate::door::{Came, Door, FAIL_LIMIT};
 use crate::site::{Post, Site, SiteFailed};
 use session_outside::{Gate, MemClock, MemLink};
 use std::alloc::{AllocError, Global};
@@ -73,7 +73,7 @@ impl MemDoor {
     pub fn is_broken(&self) -> bool
         ensures { result ≡ nat_le most_fails self.now.fails }
     {
-        MOST_FAILS <= self.fails
+        FAIL_LIMIT <= self.fails
     }
 }
 

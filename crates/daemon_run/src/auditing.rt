@@ -20,7 +20,7 @@ use std::time::Duration;
 const NAP: u64 = 50;
 
 // How often it sleeps before the workers have begun.
-const MOST_NAPS: u32 = 20;
+const NAP_LIMIT: u32 = 20;
 
 // What the word says before the workers have begun, while they run, and when all have ended.
 const BEFORE: u32 = 0;
@@ -43,7 +43,7 @@ fn go_to(word: &AtomicU64, stage: u32) {
 // Whether the workers have begun, after a second at most. Where no thread can be made for them, they begin when the auditor has
 // ended.
 fn have_begun<R: Wait>(rt: &R, word: &AtomicU64) -> bool {
-    for _nap in 0..MOST_NAPS {
+    for _nap in 0..NAP_LIMIT {
         if !is_at(word, BEFORE) {
             return true;
         }

@@ -1,7 +1,6 @@
 -- What is known of a desk's book when its lock was closed with all its passes.
 use Rattle.std.specs.Prelude.{◌≡◌, ◌≢◌, ℕ, ◌%◌, ◌^◌, ◌<◌, nat_lt, List, [], ◌∷◌, length, take, All, sum_by}
 use Rattle.atomic_table.specs.Seated.{TableId}
-use Rattle.audit_log.specs.Rule.{most}
 use Rattle.counter.specs.Account.{Extends, grants}
 use Rattle.options_machine.specs.declared.reply.Entry.{Entry}
 use Rattle.options_machine.specs.Own.{own}
@@ -9,6 +8,7 @@ use Rattle.options_machine.specs.Run.{IsRun}
 use Rattle.desk_book.specs.declared.book.DeskLaw.{DeskLaw}
 use Rattle.desk_book.specs.declared.end.Closed.{Closed}
 use Rattle.desk_book.specs.Askers.{Asker, Ticket, asker_of}
+use Rattle.audit_log.specs.declared.queue.TheConstants.{ENTRY_LIMIT}
 
 -- who keeps the end of a book's log: of which queue, what was taken out of it, and for how many passes there is room at the close
 pub record KeeperView : Type 0 where
@@ -21,8 +21,8 @@ pub record Tells (law : DeskLaw) (passes : List Asker) (c : Closed) (history : L
   pub run : IsRun law.sets history
   pub calls_is : c.calls ≡ length history % 2 ^ 64
   pub grants_is : c.grants ≡ grants history % 2 ^ 64
-  pub logged : c.log.entries.items ≡ take most history
-  pub cut_is : c.log.cut ≡ nat_lt most (length history)
+  pub logged : c.log.entries.items ≡ take ENTRY_LIMIT history
+  pub cut_is : c.log.cut ≡ nat_lt ENTRY_LIMIT (length history)
   pub seen : All (λ (a : Asker). Extends a.seen history) passes
   pub mine : All (λ (a : Asker). own history a.number ≡ a.mine) passes
   -- the parties' numbers are those below their number

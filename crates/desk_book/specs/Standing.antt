@@ -1,6 +1,5 @@
 -- What a desk's book stands for, and its runs.
 use Rattle.std.specs.Prelude.{◌≡◌, ℕ, ◌+◌, ◌%◌, ◌^◌, ◌<◌, ◌≤◌, true, nat_lt, List, [], length, map, min, take, slice_get, Some}
-use Rattle.audit_log.specs.Rule.{most}
 use Rattle.counter.specs.Account.{grants}
 use Rattle.options_machine.specs.declared.reply.Entry.{Entry}
 use Rattle.options_machine.specs.declared.reply.Request.{Request}
@@ -14,6 +13,7 @@ use Rattle.turn_lock.specs.declared.kept.Entry as turn
 use Rattle.desk_book.specs.declared.book.DeskBook.{DeskBook}
 use Rattle.desk_book.specs.declared.book.DeskLaw.{DeskLaw}
 use Rattle.desk_book.specs.declared.book.NotedReply.{NotedReply}
+use Rattle.audit_log.specs.declared.queue.TheConstants.{ENTRY_LIMIT}
 
 -- a call of the lock
 abbrev pub Call : Type 0
@@ -66,6 +66,6 @@ pub record Shows (b : Posted) (h : List Call) : Type 0 where
 pub record Stands (b : DeskBook) (h : List Call) : Type 0 where
   pub state : b.book.state ≡ after b.book.sets (entries_of h)
   pub grants_is : b.book.grants ≡ grants (entries_of h) % 2 ^ 64
-  pub logged : b.log.pushed ≡ take most (entries_of h)
-  pub cut_is : b.cut ≡ nat_lt most (length (entries_of h))
+  pub logged : b.log.pushed ≡ take ENTRY_LIMIT (entries_of h)
+  pub cut_is : b.cut ≡ nat_lt ENTRY_LIMIT (length (entries_of h))
   pub board_shows : Shows b.board h

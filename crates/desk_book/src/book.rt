@@ -1,5 +1,6 @@
 //! The value behind a desk's lock, and its step.
-ghost use Rattle.std.specs.Prelude.{◌≡◌, ◌<◌, ◌^◌, true};
+ghost use Rattle.std.specs.Prelude.{◌≡◌, ◌<◌, true};
+ghost use Rattle.lic_types.specs.declared.limits.TheConstants.{MOMENT_END};
 ghost use Rattle.options_machine.specs.Run.{after};
 
 use crate::logging::log_entry;
@@ -41,7 +42,7 @@ pub struct DeskBook {
     // Whether more entries were made than the log keeps.
     pub(crate) cut: bool,
     pub(crate) board: Board,
-    ghost small: { book.state.now < 2 ^ 40 },
+    ghost small: { book.state.now < MOMENT_END },
     ghost sets: { board.front.sets ≡ book.sets },
     ghost shown: { board.live ≡ true → book.state ≡ after book.sets board.front.list },
 }

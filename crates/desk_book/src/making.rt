@@ -1,5 +1,6 @@
 //! How a desk's book is made, with its lock and the passes of its parties.
 ghost use Rattle.std.specs.Prelude.{◌≡◌, ◌≤◌, [], All, EachIndex, IfOk, Some, slice_get, vec_len, vec_capacity};
+ghost use Rattle.lic_types.specs.declared.limits.TheConstants.{PARTY_LIMIT};
 ghost use Rattle.options_machine.specs.Law.{AreSets};
 ghost use Rattle.options_machine.specs.State.{in_force, opening};
 ghost use Rattle.turn_lock.specs.Passes.{unused};
@@ -37,7 +38,7 @@ pub fn lock_book<R: Wait>(
     n: u32,
 ) -> Result<(Turns<DeskBook>, Vec<BookPass>, Keeper), NoMemory>
     requires sets { AreSets sets.items (in_force sets.items opening).count }
-    requires parties { (1 ≤ n) × (n ≤ 256) }
+    requires parties { (1 ≤ n) × (n ≤ PARTY_LIMIT) }
     ensures lock { IfOk result (λ made. (made.0.id.parties ≡ n) × (made.0.law.parties ≡ n) × (made.0.law.sets ≡ sets.items)) }
     ensures passes { IfOk result (λ made. (vec_len made.1 ≡ n) × EachIndex made.1.items (λ i. slice_get made.1.items i ≡ Some (newcomer made.0 i))) }
     ensures keeper { IfOk result (λ made. (made.2.queue ≡ made.0.law.queue) × (made.2.taken ≡ []) × (n ≤ made.2.room)) }
@@ -64,7 +65,7 @@ fn open_book<R: Wait>(
     n: u32,
 ) -> Result<(DeskBook, LogTake, Vec<BoardPass>), NoMemory>
     requires sets { AreSets sets.items (in_force sets.items opening).count }
-    requires parties { (1 ≤ n) × (n ≤ 256) }
+    requires parties { (1 ≤ n) × (n ≤ PARTY_LIMIT) }
     ensures law { IfOk result (λ made. ((law_of made.0).sets ≡ sets.items) × ((law_of made.0).parties ≡ n)) }
     ensures opens { IfOk result (λ made. Stands made.0 [] × Runs (law_of made.0) []) }
     ensures log { IfOk result (λ made. (made.1.queue ≡ (law_of made.0).queue) × (made.1.taken ≡ [])) }

@@ -1,6 +1,6 @@
 use Rattle.std.proofs.Common.{◌≡◌, ℕ, suc, ◌+◌, ◌<◌, ◌%◌, ◌^◌, Bool, List, [], ◌∷◌, ◌++◌, length, get_or, take, refl, ap, ◌∙◌, arith}
-use Rattle.audit_log.specs.Rule.{most}
 use Rattle.audit_log.specs.Summaries.{tally_text}
+use Rattle.audit_log.specs.declared.queue.TheConstants.{ENTRY_LIMIT}
 use Rattle.options_machine.specs.declared.reply.Entry.{Entry}
 use Rattle.counter.specs.Account.{grants}
 use Rattle.desk_book.specs.declared.end.DeskLog.{DeskLog}
@@ -21,7 +21,7 @@ same_texts {X} {Y} f g d n (x ∷ xs) (y ∷ ys) e h =
 -- a log with the first entries of a history is written as that history calls for
 log_same : (k : ℕ) (l : DeskLog) (t : DeskTally) (h : List Entry) → IsEnd l t h → log_of k l ≡ log_end k h
 log_same k l t h e =
-    ap (λ (entries : List Entry). ended k entries l.cut) e.log_is.entries ∙ ap (λ (cut : Bool). ended k (take most h) cut) e.log_is.cut_is
+    ap (λ (entries : List Entry). ended k entries l.cut) e.log_is.entries ∙ ap (λ (cut : Bool). ended k (take ENTRY_LIMIT h) cut) e.log_is.cut_is
 
 tally_same : (k : ℕ) (l : DeskLog) (t : DeskTally) (h : List Entry) → IsEnd l t h → tally_of k t ≡ tally_end k h
 tally_same k l t h e =

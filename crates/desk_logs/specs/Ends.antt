@@ -1,7 +1,7 @@
 -- What is written at the end of pools with these histories.
 use Rattle.std.specs.Prelude.{◌≡◌, ℕ, ◌%◌, ◌^◌, ◌<◌, nat_lt, List, [], ◌++◌, length, slice_index_or, take}
-use Rattle.audit_log.specs.Rule.{most}
 use Rattle.audit_log.specs.Summaries.{tally_text}
+use Rattle.audit_log.specs.declared.queue.TheConstants.{ENTRY_LIMIT}
 use Rattle.options_machine.specs.declared.reply.Entry.{Entry}
 use Rattle.counter.specs.Account.{grants}
 use Rattle.desk_book.specs.declared.end.DeskLog.{DeskLog}
@@ -11,7 +11,7 @@ use Rattle.desk_logs.specs.Text.{ended, logs_text, numbered}
 
 -- the log of a pool with this history: its first 4,096 entries, and whether there were more
 abbrev pub log_end : ℕ → List Entry → List ℕ
-log_end pool history = ended pool (take most history) (nat_lt most (length history))
+log_end pool history = ended pool (take ENTRY_LIMIT history) (nat_lt ENTRY_LIMIT (length history))
 
 -- its tally: its entries, the replies of them that brought a seat, and the same again, since its cards were taken as often
 abbrev pub tally_end : ℕ → List Entry → List ℕ

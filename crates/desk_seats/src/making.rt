@@ -1,5 +1,6 @@
 //! The making of a desk's seats.
 ghost use Rattle.std.specs.Prelude.{◌≡◌, ◌+◌, ◌*◌, ◌<◌, ◌≤◌, min, [], All, EachIndex, IfOk, None, Some, IsSome, map, vec_len, vec_capacity, slice_get};
+ghost use Rattle.kex_core.specs.declared.limits.TheConstants.{PARTY_LIMIT};
 ghost use Rattle.kex_net.specs.Gates.{IsGated};
 ghost use Rattle.desk_seats.specs.Views.{parties_of};
 ghost use Rattle.desk_seats.specs.Passes.{guest_pass, plain_pass, unused};
@@ -52,7 +53,7 @@ impl DeskSeats {
         requires two { 2 ≤ n }
         requires licences { 1 ≤ k }
         requires room { 2 * min k n < n }
-        requires small { n + min k n ≤ 256 }
+        requires small { n + min k n ≤ PARTY_LIMIT }
         ensures net { IfOk result (λ r. IsGated n k r.0.net × IsSome r.0.gate) }
         ensures parties { IfOk result (λ r. (parties_of r.0 ≡ n) × (r.0.net.width ≡ min k n)) }
         ensures count { IfOk result (λ r. vec_len r.1 ≡ n) }

@@ -8,7 +8,7 @@ ghost use Rattle.session.specs.Session.{setup_of};
 
 use crate::end::DoorEnd;
 use counter::Counter;
-use daemon_outside::{Came, Door, MOST_FAILS};
+use daemon_outside::{Came, Door, FAIL_LIMIT};
 use office_view::OfficeView;
 use session::{Buffers, serve_session};
 use session_outside::{Bell, Clock, Gate};
@@ -50,7 +50,7 @@ fn turn<R: Wait, C: Counter, D: Door, K: Clock, G: Gate, B: Bell>(
         Came::Quiet => bell.rung().then_some(DoorEnd::Rung),
         Came::Failed => {
             *fails += 1;
-            if *fails >= MOST_FAILS {
+            if *fails >= FAIL_LIMIT {
                 return Some(DoorEnd::Broken);
             }
             bell.rung().then_some(DoorEnd::Rung)

@@ -1,6 +1,5 @@
 -- What is known of a desk's history when it was closed with all its passes.
 use Rattle.std.specs.Prelude.{◌≡◌, ◌≢◌, ◌≤◌, ℕ, ◌%◌, ◌^◌, false, nat_lt, List, [], length, take, All}
-use Rattle.audit_log.specs.Rule.{most}
 use Rattle.desk_seats.specs.Views.{SeatsView}
 use Rattle.options_machine.specs.declared.reply.Entry.{Entry}
 use Rattle.options_machine.specs.Own.{holds, own}
@@ -11,6 +10,7 @@ use Rattle.desk_book.specs.Ends.{KeeperView}
 use Rattle.feature_desk.specs.declared.closing.DeskTally.{DeskTally}
 use Rattle.feature_desk.specs.Sitters.{DeskView, IsOf, Sitter}
 use Rattle.feature_desk.specs.Sittings.{AreLow}
+use Rattle.audit_log.specs.declared.queue.TheConstants.{ENTRY_LIMIT}
 
 -- who keeps a desk's log: the keeper of its book, for how many passes there is room, and of which seats the passes will be taken in
 pub record DeskKeeperView : Type 0 where
@@ -52,5 +52,5 @@ pub record Tells (d : DeskView) (accounts : List Account) (t : DeskTally) (histo
 
 -- the log has the first entries of the history, and tells whether there were more
 pub record HasLog (l : DeskLog) (history : List Entry) : Type 0 where
-  pub entries : l.entries.items ≡ take most history
-  pub cut_is : l.cut ≡ nat_lt most (length history)
+  pub entries : l.entries.items ≡ take ENTRY_LIMIT history
+  pub cut_is : l.cut ≡ nat_lt ENTRY_LIMIT (length history)

@@ -1,5 +1,6 @@
 //! How a desk is made.
 ghost use Rattle.std.specs.Prelude.{◌≡◌, ◌+◌, ◌*◌, ◌<◌, ◌≤◌, [], ◌∷◌, min, All, IfOk, IsSome, EachIndex, vec_len, vec_capacity, slice_get, Some, None};
+ghost use Rattle.lic_types.specs.declared.limits.TheConstants.{PARTY_LIMIT};
 ghost use Rattle.kex_net.specs.Gates.{IsGated};
 ghost use Rattle.desk_seats.specs.Passes.{unused};
 ghost use Rattle.desk_seats.specs.Views.{parties_of};
@@ -81,7 +82,7 @@ impl Desk {
         requires two { 2 ≤ parties }
         requires licences { 1 ≤ (in_force sets.items opening).count }
         requires room { 2 * min (in_force sets.items opening).count parties < parties }
-        requires small { parties + min (in_force sets.items opening).count parties ≤ 256 }
+        requires small { parties + min (in_force sets.items opening).count parties ≤ PARTY_LIMIT }
         ensures seats { IfOk result (λ made. IsSome made.0.seats.gate × (parties_of made.0.seats ≡ parties) × (made.0.seats.net.width ≡ min (in_force sets.items opening).count parties)) }
         ensures net { IfOk result (λ made. IsGated parties (in_force sets.items opening).count made.0.seats.net) }
         ensures law { IfOk result (λ made. (made.0.lock.id.parties ≡ parties) × (made.0.lock.law.parties ≡ parties) × (made.0.lock.law.sets ≡ sets.items)) }
@@ -105,7 +106,7 @@ impl Desk {
         gathering: SeatGathering,
     ) -> Result<(Desk, Vec<DeskPass>, DeskKeeper), NoMemory>
         requires sets { AreSets sets.items (in_force sets.items opening).count }
-        requires parties { (1 ≤ parties) × (parties ≤ 256) × (parties_of seats ≡ parties) }
+        requires parties { (1 ≤ parties) × (parties ≤ PARTY_LIMIT) × (parties_of seats ≡ parties) }
         requires outs { (vec_len outs ≡ parties) × EachIndex outs.items (λ i. slice_get outs.items i ≡ Some (unused seats i)) }
         requires gathering { (gathering.table ≡ seats) × (gathering.numbers ≡ []) × (gathering.got ≡ []) }
         ensures seats { IfOk result (λ made. made.0.seats ≡ seats) }

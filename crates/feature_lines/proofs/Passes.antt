@@ -11,7 +11,7 @@ use Rattle.lic_types.specs.Groups.{same_name}
 use Rattle.lic_types.specs.declared.note.Note.{Note}
 use Rattle.lic_types.specs.declared.note.NoteKind.TheVariants.{SecondFeature, NodeLocked, NotServed}
 use Rattle.feature_lines.specs.Licence.{Contents, IsFaultOf, Judged, count_fault, counted, counted_in, fault_in, first_some, has_line, is_feature_of, is_second, licence_in, line_key, note_in, notes_of, pools_of, some_or, total, unless_fault, with_before}
-use Rattle.feature_lines.specs.Line.{at_most_65535, feature_of, granted, judged, keyword_of, or_fault, said_by, said_of, terms_of, with_word}
+use Rattle.feature_lines.specs.Line.{within_limit, feature_of, granted, judged, keyword_of, or_fault, said_by, said_of, terms_of, with_word}
 use Rattle.lic_types.specs.NameSets.{has_name, with_name}
 use Rattle.feature_lines.specs.Steps.{Sofar, added, added_to, blank, counted_or_locked, noted, passed, raised, stepped, taken, with_pools}
 use Rattle.feature_lines.specs.declared.fault.LicenceFault.{LicenceFault}
@@ -264,7 +264,7 @@ word_holds : {X Y : Type 0} (P : Result Y LicenceFault → Type 0) (missing bad 
 word_holds P missing bad read [] reads p q r = p
 word_holds P missing bad read (word ∷ words) reads p q r = or_holds P bad (read word) (λ x. reads x words) q (λ x is. r x word words is)
 
-small_number : (b : Bool) (o : Option ℕ) (n : ℕ) → cond b (Some 0) (at_most_65535 o) ≡ Some n → n ≤ 65535
+small_number : (b : Bool) (o : Option ℕ) (n : ℕ) → cond b (Some 0) (within_limit o) ≡ Some n → n ≤ 65535
 small_number true o n is = let same : 0 ≡ n = cc in omega arith
 small_number false None n is = absurd cc
 small_number false (Some m) n is = elim (ltb 65535 m) as (λ (t : Bool). ltb 65535 m ≡ t → cond t None (Some m) ≡ Some n → n ≤ 65535) [ true ↦ λ e h. absurd cc | false ↦ λ e h. (let same : m ≡ n = cc in let low : m ≤ 65535 = ltb-false 65535 m e in omega arith) ] refl is

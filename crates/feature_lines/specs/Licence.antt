@@ -6,6 +6,7 @@ use Rattle.lic_types.specs.declared.day.Expiry.{Expiry}
 use Rattle.lic_types.specs.declared.day.Expiry.TheVariants.{Never, On}
 use Rattle.lic_types.specs.declared.note.Note.{Note}
 use Rattle.lic_types.specs.declared.note.NoteKind.TheVariants.{SecondFeature, NodeLocked, NotServed}
+use Rattle.lic_types.specs.declared.limits.TheConstants.{LICENCE_LIMIT}
 use Rattle.feature_lines.specs.Line.{judged}
 use Rattle.feature_lines.specs.declared.fault.LicenceFault.{LicenceFault}
 use Rattle.feature_lines.specs.declared.fault.LicenceFault.TheVariants.{BadCount, TooManyPools, NoMemory}
@@ -13,6 +14,7 @@ use Rattle.feature_lines.specs.declared.line.FeatureLine.{FeatureLine}
 use Rattle.feature_lines.specs.declared.line.Said.{Said}
 use Rattle.feature_lines.specs.declared.line.Said.TheVariants.{Nothing, NotServed as Unserved, Feature}
 use Rattle.feature_lines.specs.declared.pool.Pool.{Pool}
+use Rattle.feature_lines.specs.declared.draft.TheConstants.{POOL_LIMIT}
 
 -- what is seen of a licence: its pools in the order of their first lines, and its notes in the order of the lines
 pub record Contents : Type 0 where
@@ -123,8 +125,8 @@ notes_of lines = filter_map (λ at. note_in at.0 at.1) (with_before [] lines)
 -- the fault of a line whose count is added to a pool, behind other such lines
 abbrev pub count_fault : List FeatureLine → FeatureLine → Option LicenceFault
 count_fault lines f =
-    if nat_lt 65535 (total lines (line_key f) + f.count) then Some (BadCount f.line)
-    else (if not (has_line lines (line_key f)) && nat_le 64 (length (pools_of lines)) then Some (TooManyPools f.line) else None)
+    if nat_lt LICENCE_LIMIT (total lines (line_key f) + f.count) then Some (BadCount f.line)
+    else (if not (has_line lines (line_key f)) && nat_le POOL_LIMIT (length (pools_of lines)) then Some (TooManyPools f.line) else None)
 
 -- the fault of a line, behind the lines before it
 abbrev pub fault_in : List Judged → Judged → Option LicenceFault
@@ -161,7 +163,7 @@ IsReading reading (Err fault) = IsFaultOf reading fault
 
 -- whether a pool has from 1 to 65,535 licences
 abbrev pub has_licences : Pool → Bool
-has_licences p = nat_lt 0 p.count && nat_le p.count 65535
+has_licences p = nat_lt 0 p.count && nat_le p.count LICENCE_LIMIT
 
 abbrev pub has_pool : PoolKey → List Pool → Bool
 has_pool key pools = list_any (λ (p : Pool). same_key key (pool_key p)) pools
@@ -173,6 +175,6 @@ are_apart (p ∷ ps) = not (has_pool (pool_key p) ps) && are_apart ps
 
 -- what holds of the pools of every licence
 pub record ArePools (pools : List Pool) : Type 0 where
-  pub few : length pools ≤ 64
+  pub few : length pools ≤ POOL_LIMIT
   pub counts : list_all has_licences pools ≡ true
   pub apart : are_apart pools ≡ true

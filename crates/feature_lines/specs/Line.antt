@@ -7,6 +7,7 @@ use Rattle.lic_text.specs.declared.fault.TextFault.{TextFault}
 use Rattle.lic_types.specs.Name.{name_of}
 use Rattle.lic_types.specs.Version.{key_of}
 use Rattle.lic_types.specs.declared.version.Version.{Version}
+use Rattle.lic_types.specs.declared.limits.TheConstants.{LICENCE_LIMIT}
 use Rattle.feature_lines.specs.Dates.{expiry_of}
 use Rattle.feature_lines.specs.declared.fault.LicenceFault.{LicenceFault}
 use Rattle.feature_lines.specs.declared.fault.LicenceFault.TheVariants.{Line, BadWord, BadCount, BadDate, BadVersion}
@@ -34,13 +35,13 @@ abbrev pub version_of : List ℕ → Option (Version × List ℕ)
 version_of word = option_map (λ key. (record { key = key }, word)) (key_of word)
 
 -- the number, where it is at most 65,535
-abbrev pub at_most_65535 : Option ℕ → Option ℕ
-at_most_65535 None = None
-at_most_65535 (Some n) = if nat_lt 65535 n then None else Some n
+abbrev pub within_limit : Option ℕ → Option ℕ
+within_limit None = None
+within_limit (Some n) = if nat_lt LICENCE_LIMIT n then None else Some n
 
 -- the count that a word spells: `uncounted` in any case, which is as 0, or a number from 0 to 65,535
 abbrev pub count_of : List ℕ → Option ℕ
-count_of word = if is_word word (codes "uncounted") then Some 0 else at_most_65535 (number_of word)
+count_of word = if is_word word (codes "uncounted") then Some 0 else within_limit (number_of word)
 
 -- what is there, and the rest of the reading; or a fault
 abbrev pub or_fault : {X Y : Type 0} → LicenceFault → Option X → (X → Result Y LicenceFault) → Result Y LicenceFault

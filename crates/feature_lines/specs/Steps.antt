@@ -3,12 +3,14 @@ use Rattle.lic_types.specs.NameSets.{has_name, with_name}
 use Rattle.lic_types.specs.declared.note.Note.{Note}
 use Rattle.lic_types.specs.declared.note.NoteKind.{NoteKind}
 use Rattle.lic_types.specs.declared.note.NoteKind.TheVariants.{SecondFeature, NodeLocked, NotServed}
+use Rattle.lic_types.specs.declared.limits.TheConstants.{LICENCE_LIMIT}
 use Rattle.feature_lines.specs.declared.fault.LicenceFault.{LicenceFault}
 use Rattle.feature_lines.specs.declared.fault.LicenceFault.TheVariants.{BadCount, TooManyPools}
 use Rattle.feature_lines.specs.declared.line.FeatureLine.{FeatureLine}
 use Rattle.feature_lines.specs.declared.line.Said.TheVariants.{Nothing, NotServed as Unserved, Feature}
 use Rattle.feature_lines.specs.declared.pool.Pool.{Pool}
 use Rattle.feature_lines.specs.Licence.{Judged, PoolKey, line_key, pool_key, pool_with, same_key}
+use Rattle.feature_lines.specs.declared.draft.TheConstants.{POOL_LIMIT}
 
 -- The one pass over the lines, step by step. No public clause cites it: `licence_of` says what it comes to.
 
@@ -31,8 +33,8 @@ raised key count [] = []
 raised key count (p ∷ ps) = if same_key key (pool_key p) then with_more count p ∷ ps else p ∷ raised key count ps
 
 abbrev pub added_to : FeatureLine → List Pool → Option Pool → Result (List Pool) LicenceFault
-added_to f pools None = if nat_lt (length pools) 64 then Ok (pools ++ pool_with f.count f ∷ []) else Err (TooManyPools f.line)
-added_to f pools (Some p) = if nat_lt 65535 (p.count + f.count) then Err (BadCount f.line) else Ok (raised (line_key f) f.count pools)
+added_to f pools None = if nat_lt (length pools) POOL_LIMIT then Ok (pools ++ pool_with f.count f ∷ []) else Err (TooManyPools f.line)
+added_to f pools (Some p) = if nat_lt LICENCE_LIMIT (p.count + f.count) then Err (BadCount f.line) else Ok (raised (line_key f) f.count pools)
 
 -- the count of a line is added to its pool, or makes it
 abbrev pub added : FeatureLine → List Pool → Result (List Pool) LicenceFault

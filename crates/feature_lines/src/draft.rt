@@ -9,14 +9,11 @@ use crate::fault::LicenceFault;
 use crate::line::{FeatureLine, Said};
 use crate::names::add_name;
 use crate::pool::Pool;
-use lic_types::{Expiry, Name, Note, NoteKind};
+use lic_types::{Expiry, LICENCE_LIMIT, Name, Note, NoteKind};
 use std::collections::BTreeSet;
 
 /// The most pools that a licence may have.
-const MOST_POOLS: usize = 64;
-
-/// The most licences that a pool may have.
-const MOST_LICENCES: u32 = 65535;
+const POOL_LIMIT: usize = 64;
 
 /// What the lines so far say.
 #[derive(Drop)]
@@ -79,14 +76,14 @@ fn add(pools: &mut Vec<Pool>, feature: &FeatureLine) -> Result<(), LicenceFault>
     ensures err { IfErr result (IsFaultOf (added feature.now pools.old.items)) }
 {
     let Some(at) = place_of(feature, pools.as_slice()) else {
-        if pools.len() >= MOST_POOLS {
+        if pools.len() >= POOL_LIMIT {
             return Err(LicenceFault::TooManyPools(feature.line));
         }
         pools.push(first_pool(feature))?;
         return Ok(());
     };
     let more = u32::from(feature.count);
-    if pools[at].count > MOST_LICENCES - more {
+    if pools[at].count > LICENCE_LIMIT - more {
         return Err(LicenceFault::BadCount(feature.line));
     }
     pools[at].count += more;

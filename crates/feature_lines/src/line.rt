@@ -7,7 +7,7 @@ use crate::date::read_expiry;
 use crate::fault::LicenceFault;
 use crate::words::is_word;
 use lic_text::{Line, TextFault, Words, number};
-use lic_types::{Expiry, Name, Version};
+use lic_types::{Expiry, LICENCE_LIMIT, Name, Version};
 
 /// What the first word of a line says of it.
 #[derive(Clone, Copy)]
@@ -98,7 +98,7 @@ fn read_count(word: &[u8]) -> Option<u16>
         return Some(0);
     }
     let count = number(word)?;
-    if count > 65535 {
+    if count > LICENCE_LIMIT as u64 {
         return None;
     }
     Some(count as u16)

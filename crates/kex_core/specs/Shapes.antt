@@ -7,6 +7,7 @@ use Rattle.kex_core.specs.declared.place.Access.TheVariants as access
 use Rattle.kex_core.specs.Nets.{Plan, Valid}
 use Rattle.kex_core.specs.Worlds.{Machine}
 use Rattle.kex_core.specs.Laws.{Kept}
+use Rattle.kex_core.specs.declared.limits.TheConstants.{PARTY_LIMIT, STAGE_LIMIT}
 
 -- a net as lists. Its functions are 0 past the lists' ends
 pub record Sheet : Type 0 where
@@ -32,10 +33,10 @@ plan s = record {
 -- the sizes that a net may have
 pub record Sized (s : Sheet) : Type 0 where
   pub two : 2 ≤ s.parties
-  pub parties : s.parties ≤ 256
+  pub parties : s.parties ≤ PARTY_LIMIT
   pub wide : 1 ≤ s.width
   pub width : s.width ≤ s.parties
-  pub stages : length s.caps ≤ 4096
+  pub stages : length s.caps ≤ STAGE_LIMIT
   pub nexts : length s.nexts ≡ length s.caps
   pub starts : length s.starts ≡ s.parties
 

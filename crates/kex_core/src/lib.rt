@@ -11,6 +11,7 @@
 
 mod fault;
 mod laws;
+mod limits;
 mod net;
 mod place;
 mod validity;
@@ -20,6 +21,7 @@ pub use fault::NetFault;
 pub use laws::{
     accesses_are_bounded, moves_keep_the_invariant, paths_follow_next, safe_on_every_schedule,
 };
+pub use limits::{PARTY_LIMIT, STAGE_LIMIT};
 pub use net::Net;
 pub use no_memory::NoMemory;
 pub use place::{Access, Place};

@@ -4,6 +4,7 @@ ghost use Rattle.kex_core.specs.Shapes.{Sheet, sheet, plan, IsNet};
 ghost use Rattle.kex_core.specs.Faults.{Refused};
 ghost use Rattle.kex_core.specs.Worlds.{due, passed, back, after};
 ghost use Rattle.kex_core.specs.Laws.{Placed};
+ghost use Rattle.kex_core.specs.declared.limits.TheConstants.{STAGE_LIMIT};
 
 use crate::fault::NetFault;
 use crate::place::Place;
@@ -89,7 +90,7 @@ impl Net {
     /// The number of stages, at most 4,096. As a stage it means Exit.
     pub fn stages(&self) -> u32
         ensures value { result ≡ (plan self.now).stages }
-        ensures small { result ≤ 4096 }
+        ensures small { result ≤ STAGE_LIMIT }
     {
         self.caps.len() as u32
     }

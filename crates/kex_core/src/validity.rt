@@ -4,16 +4,17 @@ ghost use Rattle.kex_core.specs.Shapes.{sheet, plan, IsNet};
 ghost use Rattle.kex_core.specs.Faults.{Below, IsFirst, Refused};
 
 use crate::fault::NetFault;
+use crate::limits::{PARTY_LIMIT, STAGE_LIMIT};
 
 // whether the lists have the sizes of a net
 fn is_sized(n: u32, m: u32, caps: &[u32], next: &[u32], start: &[u32]) -> bool
-    ensures { IsTrue result ↔ ((2 ≤ n) × (n ≤ 256) × (1 ≤ m) × (m ≤ n) × (length caps.now ≤ 4096) × (length next.now ≡ length caps.now) × (length start.now ≡ n)) }
+    ensures { IsTrue result ↔ ((2 ≤ n) × (n ≤ PARTY_LIMIT) × (1 ≤ m) × (m ≤ n) × (length caps.now ≤ STAGE_LIMIT) × (length next.now ≡ length caps.now) × (length start.now ≡ n)) }
 {
     n >= 2
-        && n <= 256
+        && n <= PARTY_LIMIT
         && m >= 1
         && m <= n
-        && caps.len() <= 4096
+        && caps.len() <= STAGE_LIMIT
         && next.len() == caps.len()
         && start.len() == n as usize
 }
@@ -60,10 +61,10 @@ fn first_bad_cap(stages: u32, caps: &[u32]) -> Option<u32>
 
 // how many parties start at j
 fn starts_at(n: u32, start: &[u32], j: u32) -> u64
-    requires small { n ≤ 256 }
+    requires small { n ≤ PARTY_LIMIT }
     requires same { length start.now ≡ n }
     ensures value { result ≡ count n (λ p. slice_index start.now p == j) }
-    ensures small { result ≤ 256 }
+    ensures small { result ≤ PARTY_LIMIT }
 {
     let mut total = 0u64;
     for p in 0..n {
@@ -76,10 +77,10 @@ fn starts_at(n: u32, start: &[u32], j: u32) -> u64
 
 // how many can come to j from the stages that lead there
 fn feeds_of(caps: &[u32], next: &[u32], j: u32) -> u64
-    requires small { length caps.now ≤ 4096 }
+    requires small { length caps.now ≤ STAGE_LIMIT }
     requires same { length next.now ≡ length caps.now }
     ensures value { result ≡ over (length caps.now) (λ i. (if slice_index next.now i == j then slice_index caps.now i else 0)) }
-    ensures small { result ≤ 4096 * 2 ^ 32 }
+    ensures small { result ≤ STAGE_LIMIT * 2 ^ 32 }
 {
     let mut total = 0u64;
     for i in 0..caps.len() {
@@ -93,9 +94,9 @@ fn feeds_of(caps: &[u32], next: &[u32], j: u32) -> u64
 // the first stage to which more can come than its capacity and one
 fn first_overfull(n: u32, stages: u32, caps: &[u32], next: &[u32], start: &[u32]) -> Option<u32>
     requires stages { length caps.now ≡ stages }
-    requires small { length caps.now ≤ 4096 }
+    requires small { length caps.now ≤ STAGE_LIMIT }
     requires same { length next.now ≡ length caps.now }
-    requires few { n ≤ 256 }
+    requires few { n ≤ PARTY_LIMIT }
     requires parties { length start.now ≡ n }
     ensures { let fits = λ (j : ℕ). count n (λ p. slice_index start.now p == j) + over (length caps.now) (λ i. (if slice_index next.now i == j then slice_index caps.now i else 0)) ≤ slice_index caps.now j + 1 in
         MatchOption result (Below stages fits) (IsFirst stages fits) }

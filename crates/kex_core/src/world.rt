@@ -3,6 +3,7 @@ ghost use Rattle.kex_core.specs.declared.place.Place.TheVariants.{Dec};
 ghost use Rattle.kex_core.specs.Shapes.{plan, State, machine_of, machine, number_of, HasWord, access_of, IsWorld};
 ghost use Rattle.kex_core.specs.Laws.{Kept, Safe};
 ghost use Rattle.kex_core.specs.Worlds.{due, found, x_after, q_after, bit_after, card_after, move, opening};
+ghost use Rattle.kex_core.specs.declared.limits.TheConstants.{PARTY_LIMIT};
 
 use crate::net::Net;
 use crate::place::{Access, Place};
@@ -41,7 +42,7 @@ impl Words {
     fn write(&mut self, p: u32, place: Place)
         requires word { HasWord (length self.old.counters.items) (length self.old.bits.items) (length self.old.cards.items) place }
         requires words { length self.old.spin_words.items ≡ length self.old.counters.items }
-        requires few { p < 256 }
+        requires few { p < PARTY_LIMIT }
         requires above { (j : ℕ) → place ≡ Dec j → 0 < slice_index self.old.counters.items j }
         requires room { (j : ℕ) → slice_index self.old.counters.items j + 1 < 2 ^ 64 }
         ensures x { (λ (j : ℕ). slice_index self.new.counters.items j) ≡ x_after place (λ (j : ℕ). slice_index self.old.counters.items j) }

@@ -3,6 +3,7 @@ use Rattle.std.specs.Prelude.{◌≡◌, ℕ, ◌+◌, ◌-◌, ◌*◌, ◌%◌
 use Rattle.atomic_table.specs.Seated.{TableId}
 use Rattle.kex_core.specs.declared.place.Place.TheVariants.{Out}
 use Rattle.kex_core.specs.Shapes.{Sheet}
+use Rattle.kex_core.specs.declared.limits.TheConstants.{PARTY_LIMIT}
 use Rattle.kex_net.specs.Gates.{IsGated}
 use Rattle.kex_words.specs.declared.card.Card.{Card}
 use Rattle.kex_words.specs.Passes.{TableNet, Pass, Held, times}
@@ -114,5 +115,5 @@ pub record IsSetUp (id : TableId) (told seats : TableNet) (n m : ℕ) : Type 0 w
   pub two : 2 ≤ n
   pub one : 1 ≤ m
   pub thin : 2 * m < n
-  pub small : n + m ≤ 256
+  pub small : n + m ≤ PARTY_LIMIT
   pub gated : IsGated n m seats.net

@@ -1,5 +1,6 @@
 -- The rule of the gate's table.
 use Rattle.std.specs.Prelude.{◌≡◌, ◌⊎◌, ℕ, ◌+◌, ◌-◌, ◌<◌, ◌≤◌, if◌then◌else◌, List, [], ◌∷◌, length, slice_index, Option, Some, None}
+use Rattle.kex_core.specs.declared.limits.TheConstants.{PARTY_LIMIT}
 use mathlib.Core.Option.{none, some}
 use mathlib.Core.Option as maybe
 use lib.ListN.{get_elem?}
@@ -13,6 +14,7 @@ use Rattle.kex_gate.specs.declared.view.Spot.TheVariants.{Free, Testing, Taking,
 use Rattle.kex_gate.specs.declared.view.Visit.{Visit}
 use Rattle.kex_gate.specs.declared.view.View.{View}
 use Rattle.kex_gate.specs.Passes.{sessions, resting, room_word, bit_word}
+use Rattle.kex_gate.specs.declared.gate.TheConstants.{FULL}
 
 -- the words and slots of a gate's table, and what each seat knows
 abbrev pub GateState : Type 0
@@ -183,10 +185,10 @@ pub record IsGate (seats : TableNet) (s : GateState) : Type 0 where
   pub made : ℕ
   pub maker_seat : ℕ
   pub some_seats : 1 ≤ seats.net.width
-  pub small : sessions seats.net + seats.net.width ≤ 256
+  pub small : sessions seats.net + seats.net.width ≤ PARTY_LIMIT
   pub wide : length s.words ≡ seats.net.width + 1
   -- the count of room
-  pub room : slice_index s.words room_word + total busy_in s.views ≡ 256 + seats.net.width
+  pub room : slice_index s.words room_word + total busy_in s.views ≡ FULL + seats.net.width
   -- who was let through, and how far they came
   pub inside : total within_in s.views ≤ seats.net.width
   pub behind : (i : ℕ) → i < seats.net.width → total (reaches_in i) s.views + i ≤ seats.net.width

@@ -13,6 +13,7 @@ use Rattle.kex_gate.specs.declared.view.Spot.TheVariants.{Free, Testing, Taking,
 use Rattle.kex_gate.specs.declared.view.View.{View}
 use Rattle.kex_gate.specs.Passes.{Guest, Way, sessions, resting, slow_seats, own_pass}
 use Rattle.kex_gate.specs.Rule.{GateState, IsGate, busy_in, fast_worth}
+use Rattle.kex_gate.specs.declared.gate.TheConstants.{FULL}
 
 -- a seat's view, and the passes that it has out
 abbrev pub Self : Type 0
@@ -56,7 +57,7 @@ spot_at m i = if i + 1 == m then Taking i else Testing i
 
 -- where a session comes that found n in the count of room: at most 256 is no room
 abbrev pub spot_found : ℕ → ℕ → Spot
-spot_found m n = if n - 256 == 0 then Slow else spot_at m 0
+spot_found m n = if n - FULL == 0 then Slow else spot_at m 0
 
 -- where one comes that found n in the bit that it tested
 abbrev pub spot_tested : ℕ → ℕ → Spot → Spot
@@ -110,7 +111,7 @@ entered v n k = record v { spot = spot_found v.seats.net.width n; met = k }
 
 -- the count of room tells how many others it met
 abbrev pub came : Step (Option Pass) → Self → ℕ → Self → Type 0
-came st m n m' = (k : ℕ) × Meets m.0 k × (n + k ≡ 256 + m.0.seats.net.width) × (m' ≡ (entered m.0 n k, m.1))
+came st m n m' = (k : ℕ) × Meets m.0 k × (n + k ≡ FULL + m.0.seats.net.width) × (m' ≡ (entered m.0 n k, m.1))
 
 abbrev pub tested : Step (Option Pass) → Self → ℕ → Self → Type 0
 tested st m n m' = m' ≡ (moved m.0 (spot_tested m.0.seats.net.width n m.0.spot), m.1)

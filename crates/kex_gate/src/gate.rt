@@ -1,5 +1,6 @@
 //! The gate's table of words and slots, its rule, and the kinds of step.
 ghost use Rattle.std.specs.Prelude.{◌≡◌, ◌≤◌};
+ghost use Rattle.kex_core.specs.declared.limits.TheConstants.{PARTY_LIMIT};
 ghost use Rattle.kex_gate.specs.Passes as passes;
 
 use crate::view::View;
@@ -21,7 +22,7 @@ pub(crate) const FULL: u64 = 256;
 
 /// The word of bit i: 1 where the number i is a session's, and else 0.
 pub(crate) fn bit_word(i: u32) -> usize
-    requires { i ≤ 256 }
+    requires { i ≤ PARTY_LIMIT }
     ensures { result ≡ passes.bit_word i }
 {
     i as usize + 2

@@ -1,5 +1,6 @@
 //! The making of a gate.
 ghost use Rattle.std.specs.Prelude.{◌≡◌, ◌≢◌, ℕ, ◌+◌, ◌*◌, ◌<◌, ◌≤◌, min, [], ◌∷◌, ◌++◌, Some, IfOk, All, EachIndex, vec_len, vec_capacity, length, slice_get, slice_index};
+ghost use Rattle.kex_core.specs.declared.limits.TheConstants.{PARTY_LIMIT};
 ghost use Rattle.kex_net.specs.Gates.{IsGated};
 ghost use Rattle.kex_words.specs.Passes.{Pass};
 ghost use Rattle.kex_gate.specs.Passes.{fresh, sessions, room_word};
@@ -24,7 +25,7 @@ impl GatedSeats {
         requires two { 2 ≤ n }
         requires licences { 1 ≤ k }
         requires room { 2 * min k n < n }
-        requires small { n + min k n ≤ 256 }
+        requires small { n + min k n ≤ PARTY_LIMIT }
         ensures net { IfOk result (λ r. IsGated n k r.0.seats.net) }
         ensures count { IfOk result (λ r. vec_len r.1 ≡ n) }
         ensures passes { IfOk result (λ r. EachIndex r.1.items (λ i. slice_get r.1.items i ≡ Some (fresh r.0 i))) }
@@ -86,9 +87,9 @@ fn gate_slots(alloc: Global, mut passes: Vec<Out>) -> Result<Vec<Option<Out>>, N
 
 // the words of a new gate of so many seats, where all sessions are Free
 fn opening_words(alloc: Global, width: u32) -> Result<Vec<u64>, NoMemory>
-    requires { (1 ≤ width) × (width ≤ 256) }
+    requires { (1 ≤ width) × (width ≤ PARTY_LIMIT) }
     ensures wide { IfOk result (λ v. length v.items ≡ width + 1) }
-    ensures room { IfOk result (λ v. slice_index v.items room_word ≡ 256 + width) }
+    ensures room { IfOk result (λ v. slice_index v.items room_word ≡ FULL + width) }
     ensures others { IfOk result (λ v. (k : ℕ) → k ≢ room_word → slice_index v.items k ≡ 0) }
 {
     let mut words = vec![in alloc; 0u64; width as usize + 1]?;

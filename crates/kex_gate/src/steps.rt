@@ -3,6 +3,7 @@ ghost use Rattle.std.specs.Prelude.{◌≡◌, ◌+◌, ◌<◌, if◌then◌els
 ghost use Rattle.kex_gate.specs.declared.view.Spot.TheVariants.{Free, Testing, Taking, Fast, Clearing, Giving, Slow};
 ghost use Rattle.kex_gate.specs.Passes.{sessions, resting};
 ghost use Rattle.kex_gate.specs.Steps.{moved, entered, Meets, spot_at, spot_home, last_of, IsSession};
+ghost use Rattle.kex_gate.specs.declared.gate.TheConstants.{FULL};
 
 use crate::gate::{
     Clears, GateSeat, Gives, GivesSlow, Noting, PassesIn, PassesOut, ROOM, STILL, Takes, Tests,
@@ -20,7 +21,7 @@ impl GatedSeats {
         requires free { seat.old.me.0.spot ≡ Free }
         ensures own { seat.new.table_id ≡ seat.old.table_id }
         ensures met { Meets seat.old.me.0 seat.new.me.0.met }
-        ensures told { result + seat.new.me.0.met ≡ 256 + self.now.seats.net.width }
+        ensures told { result + seat.new.me.0.met ≡ FULL + self.now.seats.net.width }
         ensures came { seat.new.me ≡ (entered seat.old.me.0 result seat.new.me.0.met, seat.old.me.1) }
     {
         self.table.shared.fetch_sub::<Takes>(seat, ROOM, 1)

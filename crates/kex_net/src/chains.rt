@@ -1,4 +1,5 @@
 ghost use Rattle.std.specs.Prelude.{◌≡◌, ◌≤◌, ◌<◌, ◌+◌, ◌-◌, ℕ, IfOk, length, slice_index};
+ghost use Rattle.kex_core.specs.declared.limits.TheConstants.{PARTY_LIMIT};
 ghost use Rattle.kex_net.specs.Chains.{IsChain};
 
 use kex_core::{Net, NoMemory};
@@ -18,7 +19,7 @@ fn falling(alloc: Global, n: u32, stages: u32) -> Result<Vec<u32>, NoMemory>
 
 // each stage's next is the one behind it, and the last one's is Exit
 fn following(alloc: Global, stages: u32) -> Result<Vec<u32>, NoMemory>
-    requires { stages < 256 }
+    requires { stages < PARTY_LIMIT }
     ensures { IfOk result (λ v. (length v.items ≡ stages) × ((j : ℕ) → j < stages → slice_index v.items j ≡ j + 1)) }
 {
     let mut next = Vec::new(alloc);
@@ -38,7 +39,7 @@ fn following(alloc: Global, stages: u32) -> Result<Vec<u32>, NoMemory>
 /// no other reason: [`Net::of`] can't refuse it.
 pub fn chain(alloc: Global, n: u32, k: u32) -> Result<Net, NoMemory>
     requires two { 2 ≤ n }
-    requires small { n ≤ 256 }
+    requires small { n ≤ PARTY_LIMIT }
     requires licences { 1 ≤ k }
     ensures { IfOk result (IsChain n k) }
 {

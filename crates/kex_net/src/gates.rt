@@ -1,4 +1,5 @@
 ghost use Rattle.std.specs.Prelude.{◌≡◌, ◌+◌, ◌*◌, ◌<◌, ◌≤◌, IfOk, min};
+ghost use Rattle.kex_core.specs.declared.limits.TheConstants.{PARTY_LIMIT};
 ghost use Rattle.kex_net.specs.Gates.{IsGated};
 
 use crate::stages::{push_falling, push_leading};
@@ -22,7 +23,7 @@ pub fn gated(alloc: Global, n: u32, k: u32) -> Result<Net, NoMemory>
     requires two { 2 ≤ n }
     requires licences { 1 ≤ k }
     requires room { 2 * min k n < n }
-    requires small { n + min k n ≤ 256 }
+    requires small { n + min k n ≤ PARTY_LIMIT }
     ensures { IfOk result (IsGated n k) }
 {
     let m = k.min(n);

@@ -1,5 +1,6 @@
 ghost use Rattle.std.specs.Prelude.{◌≡◌, ℕ, ◌+◌, ◌-◌, ◌/◌, ◌<◌, ◌≤◌, ◌^◌, ◌++◌, [], ◌∷◌, IfOk, OnOk, length, slice_index, min, sum};
 ghost use Rattle.kex_core.specs.Shapes.{sheet};
+ghost use Rattle.kex_core.specs.declared.limits.TheConstants.{PARTY_LIMIT};
 ghost use Rattle.kex_net.specs.Trees.{bottom, above, met, falling, leading, level_caps, level_nexts, level_meets, stages_of, AreLevels, IsTree};
 
 use crate::stages::{push_falling, push_leading};
@@ -36,7 +37,7 @@ impl Stages {
 fn bottom_sizes(alloc: Global, n: u32, m: u32) -> Result<Vec<u32>, NoMemory>
     requires some { 1 ≤ m }
     requires wide { m ≤ n }
-    requires small { n ≤ 256 }
+    requires small { n ≤ PARTY_LIMIT }
     ensures value { IfOk result (λ v. v.items ≡ bottom m n) }
     ensures total { IfOk result (λ v. sum v.items ≡ n) }
     ensures count { IfOk result (λ v. length v.items ≡ (n + m - 1) / m) }
@@ -130,7 +131,7 @@ pub(crate) fn levels_over(
 pub(crate) fn starts(alloc: Global, n: u32, m: u32, meets: &[u32]) -> Result<Vec<u32>, NoMemory>
     requires some { 1 ≤ m }
     requires groups { length meets.now ≡ (n + m - 1) / m }
-    requires small { n ≤ 256 }
+    requires small { n ≤ PARTY_LIMIT }
     ensures { IfOk result (λ v. (length v.items ≡ n) × ((p : ℕ) → p < n → slice_index v.items p ≡ slice_index meets.now (p / m))) }
 {
     let mut start = Vec::new(alloc);
@@ -151,7 +152,7 @@ pub(crate) struct Lists {
 // the lists of the tree
 pub(crate) fn tree_lists(alloc: Global, n: u32, k: u32) -> Result<Lists, NoMemory>
     requires two { 2 ≤ n }
-    requires small { n ≤ 256 }
+    requires small { n ≤ PARTY_LIMIT }
     requires licences { 1 ≤ k }
     ensures tree { IfOk result (λ t. IsTree n k (sheet n (min k n) t.caps.items t.next.items t.start.items)) }
     ensures stages { IfOk result (λ t. length t.caps.items + min k n ≡ n) }
@@ -184,7 +185,7 @@ pub(crate) fn tree_lists(alloc: Global, n: u32, k: u32) -> Result<Lists, NoMemor
 /// no other reason: [`Net::of`] can't refuse it.
 pub fn tree(alloc: Global, n: u32, k: u32) -> Result<Net, NoMemory>
     requires two { 2 ≤ n }
-    requires small { n ≤ 256 }
+    requires small { n ≤ PARTY_LIMIT }
     requires licences { 1 ≤ k }
     ensures { IfOk result (IsTree n k) }
 {

@@ -2,7 +2,7 @@
 ghost use Rattle.std.specs.Prelude.{◌≡◌, All, Some};
 ghost use Rattle.desk_seats.specs.Turns.{pass_in_turn};
 
-use crate::stops::{MOST_STEPS, ROUNDS, Stops};
+use crate::stops::{STEP_LIMIT, ROUNDS, Stops};
 use anyhow::{Result, ensure};
 use desk_seats::{DeskSeats, SeatEntering, SeatHold, SeatOut, SeatThrough, SeatTurn};
 use kex_core::NoMemory;
@@ -224,7 +224,7 @@ impl Run {
 pub(crate) fn stops_at(alloc: Global, at: SeatsOf) -> Result<Stops> {
     let mut stops = Stops::default();
     for stopped in 0..at.sessions() {
-        for calls in 0..=MOST_STEPS {
+        for calls in 0..=STEP_LIMIT {
             let mut run = Run {
                 at,
                 sessions: at.make(alloc)?,

@@ -1,5 +1,6 @@
 //! Every state of the machine on a chain.
 ghost use Rattle.std.specs.Prelude.{◌≡◌, ◌-◌, ◌≤◌, min, IfOk};
+ghost use Rattle.kex_core.specs.declared.limits.TheConstants.{PARTY_LIMIT};
 ghost use Rattle.kex_search.specs.Chained.{IsOf};
 
 use crate::seats::held;
@@ -10,14 +11,14 @@ use std::alloc::Global;
 use std::collections::{BTreeSet, VecDeque};
 
 /// No chain here has more states.
-const MOST_STATES: u32 = 1_000_000;
+const STATE_LIMIT: u32 = 1_000_000;
 
 /// A chain of stages, for so many parties and licences.
 #[derive(Clone, Copy)]
 pub(crate) struct Chain {
     pub parties: u32,
     pub licences: u32,
-    ghost some: { (2 ≤ parties) × (parties ≤ 256) × (1 ≤ licences) },
+    ghost some: { (2 ≤ parties) × (parties ≤ PARTY_LIMIT) × (1 ≤ licences) },
 }
 
 /// What a search found.
@@ -143,12 +144,12 @@ impl Search {
 
     /// Visits every state.
     pub(crate) fn run(mut self, alloc: Global) -> Result<Found> {
-        for _state in 0..MOST_STATES {
+        for _state in 0..STATE_LIMIT {
             let Some(moves) = self.waiting.pop_front() else {
                 return Ok(self.found);
             };
             self.visit(alloc, moves.as_slice())?;
         }
-        bail!("more than {MOST_STATES} states")
+        bail!("more than {STATE_LIMIT} states")
     }
 }

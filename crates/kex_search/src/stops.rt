@@ -12,7 +12,7 @@ use std::alloc::Global;
 use std::fmt::{self, Display, Formatter, Write};
 
 /// A party stops after so many steps at most: accesses, or calls.
-pub(crate) const MOST_STEPS: u32 = 12;
+pub(crate) const STEP_LIMIT: u32 = 12;
 
 /// Then the others go on, each in its turn, for so many rounds.
 pub(crate) const ROUNDS: u32 = 200;
@@ -75,7 +75,7 @@ impl Stops {
         let parties = kind.net(alloc)?.parties();
         let mut stops = Stops::default();
         for stopped in 0..parties {
-            for accesses in 0..=MOST_STEPS {
+            for accesses in 0..=STEP_LIMIT {
                 let mut pair = Pair::make(alloc, kind)?;
                 stops.note(pair.run(stopped, accesses)?);
                 stops.most_held = stops.most_held.max(pair.most_held);

@@ -1,5 +1,6 @@
 //! The table of words and slots, its rule, and the kinds of step.
 ghost use Rattle.std.specs.Prelude.{◌≡◌, ◌+◌, ◌*◌, ◌≤◌};
+ghost use Rattle.kex_core.specs.declared.limits.TheConstants.{STAGE_LIMIT};
 
 use crate::card::Card;
 use crate::view::View;
@@ -10,7 +11,7 @@ use std::snapshot::Snapshot;
 
 /// The word of the counter of stage j. Word 0 is read by split and join alone.
 pub(crate) fn counter_word(j: u32) -> usize
-    requires { j ≤ 4096 }
+    requires { j ≤ STAGE_LIMIT }
     ensures { result ≡ 2 * j + 1 }
 {
     2 * j as usize + 1
@@ -18,7 +19,7 @@ pub(crate) fn counter_word(j: u32) -> usize
 
 /// The spin word of stage j.
 pub(crate) fn spin_word(j: u32) -> usize
-    requires { j ≤ 4096 }
+    requires { j ≤ STAGE_LIMIT }
     ensures { result ≡ 2 * j + 2 }
 {
     2 * j as usize + 2

@@ -5,6 +5,7 @@
 mod client;
 mod day;
 mod group;
+mod limits;
 mod name;
 mod note;
 mod printed_day;
@@ -13,6 +14,7 @@ mod version;
 pub use client::{Client, Rule, RuleLine, Who, WhoKind};
 pub use day::{Day, Expiry};
 pub use group::Group;
+pub use limits::{LICENCE_LIMIT, LINGER_LIMIT, MOMENT_END, PARTY_LIMIT};
 pub use name::{Name, NameFault};
 pub use no_memory::NoMemory;
 pub use note::{Note, NoteKind};

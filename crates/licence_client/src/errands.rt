@@ -13,7 +13,7 @@ const HOLDING_SECONDS: u64 = 300;
 const WAITING_SECONDS: u64 = 10;
 
 /// The most seconds between BEATs: a day.
-const MOST_SECONDS: u64 = 86_400;
+const SECONDS_LIMIT: u64 = 86_400;
 
 /// The errand of a command and the words behind it, at this pace. `None` comes exactly where there is no such command, or it
 /// takes another number of words.
@@ -58,7 +58,7 @@ fn seconds_of(word: &str) -> Option<u64>
     ensures { result ≡ seconds_of word.now }
 {
     match number(word.as_bytes()) {
-        Some(seconds) if 1 <= seconds && seconds <= MOST_SECONDS => Some(seconds),
+        Some(seconds) if 1 <= seconds && seconds <= SECONDS_LIMIT => Some(seconds),
         _ => None,
     }
 }

@@ -20,14 +20,14 @@ pub struct LintNames<'a> {
 }
 
 /// The most days that `--expires-within` may have.
-const MOST_DAYS: u64 = 65_535;
+const DAY_LIMIT: u64 = 65_535;
 
 /// How many days a word writes: a number up to 65,535.
 fn read_days(word: &str) -> Option<u32>
     ensures { result ≡ days_of word.now }
 {
     match number(word.as_bytes()) {
-        Some(days) if days <= MOST_DAYS => Some(days as u32),
+        Some(days) if days <= DAY_LIMIT => Some(days as u32),
         _ => None,
     }
 }

@@ -3,6 +3,7 @@ use Rattle.std.specs.Prelude.{ℕ, Bool, ◌&&◌, nat_eq, nat_le, if◌then◌e
 use Rattle.std.specs.List.{list_all}
 use Rattle.std.specs.Cmp.Lexicographic.{pointwise}
 use Rattle.std.specs.Option.{option_map}
+use Rattle.lic_types.specs.declared.limits.TheConstants.{PARTY_LIMIT}
 use Rattle.lic_text.specs.Number.{number_of}
 use Rattle.licence_tool.specs.Command.{is_plain_word}
 use Rattle.licence_tool.specs.declared.words.Words.{Words}
@@ -24,7 +25,7 @@ pub record ServeWords : Type 0 where
 -- how many sessions there are at once: 2 to 256
 abbrev pub few_sessions : Option ℕ → Option ℕ
 few_sessions None = None
-few_sessions (Some n) = if nat_le 2 n && nat_le n 256 then Some n else None
+few_sessions (Some n) = if nat_le 2 n && nat_le n PARTY_LIMIT then Some n else None
 
 abbrev pub sessions_of : List ℕ → Option ℕ
 sessions_of word = few_sessions (number_of word)

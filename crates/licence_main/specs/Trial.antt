@@ -1,6 +1,7 @@
 -- The words of a `trial-threads`.
 use Rattle.std.specs.Prelude.{ℕ, ◌≤◌, nat_eq, if◌then◌else◌, List, [], ◌∷◌, map, Option, None, Some, codes, string_bytes}
 use Rattle.std.specs.Cmp.Lexicographic.{pointwise}
+use Rattle.lic_types.specs.declared.limits.TheConstants.{LICENCE_LIMIT, PARTY_LIMIT}
 use Rattle.licence_tool.specs.Numbers.{number_within}
 use Rattle.licence_tool.specs.declared.words.Words.{Words}
 use Rattle.licence_tool.specs.declared.words.Words.TheVariants.{Text, NotText, NoMemory}
@@ -17,7 +18,7 @@ numbers_of (Some clients) (Some seats) (Some rounds) = Some (record { clients = 
 abbrev pub trial_of : List (List ℕ) → Option TrialNumbers
 trial_of (verb ∷ clients ∷ seats ∷ rounds ∷ []) =
     if pointwise nat_eq verb (codes "trial-threads")
-    then numbers_of (number_within 2 256 clients) (number_within 1 65535 seats) (number_within 1 10000 rounds)
+    then numbers_of (number_within 2 PARTY_LIMIT clients) (number_within 1 LICENCE_LIMIT seats) (number_within 1 10000 rounds)
     else None
 trial_of words = None
 
@@ -30,8 +31,8 @@ trial_in NoMemory = None
 -- numbers that a trial may have
 pub record IsWithinTrial (n : TrialNumbers) : Type 0 where
   pub clients_from : 2 ≤ n.clients
-  pub clients_to : n.clients ≤ 256
+  pub clients_to : n.clients ≤ PARTY_LIMIT
   pub seats_from : 1 ≤ n.seats
-  pub seats_to : n.seats ≤ 65535
+  pub seats_to : n.seats ≤ LICENCE_LIMIT
   pub rounds_from : 1 ≤ n.rounds
   pub rounds_to : n.rounds ≤ 10000

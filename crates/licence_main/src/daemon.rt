@@ -1,5 +1,6 @@
 //! The daemon: what is served under a licence and its options, and what is written of it.
 ghost use Rattle.std.specs.Prelude.{◌≡◌, ◌<◌, ◌≤◌, ◌^◌, IfSome, [], false, length, vec_capacity};
+ghost use Rattle.lic_types.specs.declared.limits.TheConstants.{PARTY_LIMIT};
 ghost use Rattle.daemon_run.specs.Ends.{WhereServed};
 ghost use Rattle.daemon_run.specs.Gives.{kept_from};
 ghost use Rattle.outside.specs.Told.{HasRisen};
@@ -80,7 +81,7 @@ pub fn serve_terms<R: Threads + Wait + Sync, O: Sink, S: Site>(
     out: &mut O,
     site: &mut S,
 ) -> DaemonStatus
-    requires sessions { (2 ≤ names.now.sessions) × (names.now.sessions ≤ 256) }
+    requires sessions { (2 ≤ names.now.sessions) × (names.now.sessions ≤ PARTY_LIMIT) }
     requires sets { (1 ≤ length terms.now.sets.items) × (length terms.now.sets.items ≤ 4) }
     ensures posted { S.posted site.new ≡ S.posted site.old }
     ensures alone { is_begun result ≡ false → site.new ≡ site.old }

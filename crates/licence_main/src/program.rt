@@ -1,5 +1,6 @@
 //! The top call.
 ghost use Rattle.std.specs.Prelude.{◌≡◌, ◌↔◌, ◌⊎◌, ◌≤◌, ℕ, IfSome, None, false, length};
+ghost use Rattle.lic_types.specs.declared.limits.TheConstants.{PARTY_LIMIT};
 ghost use Rattle.daemon_run.specs.Gives.{kept_from, no_sessions};
 ghost use Rattle.licence_tool.specs.Asked.{HasFailed};
 ghost use Rattle.licence_tool.specs.Tool.{GainsLine};
@@ -38,7 +39,7 @@ fn perform_serve<R: Threads + Wait + Sync, F: Files, O: Sink, S: Site>(
     site: &mut S,
 ) -> DaemonStatus
     requires more { length names.now.more.now ≤ 3 }
-    requires sessions { (2 ≤ names.now.sessions) × (names.now.sessions ≤ 256) }
+    requires sessions { (2 ≤ names.now.sessions) × (names.now.sessions ≤ PARTY_LIMIT) }
     ensures posted { S.posted site.new ≡ S.posted site.old }
     ensures alone { is_begun result ≡ false → site.new ≡ site.old }
     ensures asked { AsksServe (serve_named names.now).files (F.asked files.old) (F.asked files.new) (F.failed files.old) (F.failed files.new) (reading_in result) }
@@ -66,7 +67,7 @@ fn serve_command<R: Threads + Wait + Sync, F: Files, O: Sink, E: Sink, S: Site>(
     site: &mut S,
 ) -> DaemonStatus
     requires more { length names.now.more.now ≤ 3 }
-    requires sessions { (2 ≤ names.now.sessions) × (names.now.sessions ≤ 256) }
+    requires sessions { (2 ≤ names.now.sessions) × (names.now.sessions ≤ PARTY_LIMIT) }
     ensures posted { S.posted site.new ≡ S.posted site.old }
     ensures alone { is_begun result ≡ false → site.new ≡ site.old }
     ensures asked { AsksServe (serve_named names.now).files (F.asked files.old) (F.asked files.new) (F.failed files.old) (F.failed files.new) (reading_in result) }

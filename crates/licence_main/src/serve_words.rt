@@ -5,6 +5,7 @@ ghost use Rattle.licence_tool.specs.Command.{is_plain_word};
 ghost use Rattle.licence_main.specs.Serve.{are_serve, serve_in, serve_named, serve_of, sessions_of};
 
 use lic_text::number;
+use lic_types::PARTY_LIMIT;
 use licence_tool::{Words, is_plain_word};
 
 /// What a `serve` names.
@@ -28,10 +29,10 @@ const MORE_LIMIT: usize = 3;
 /// How many sessions there are at once: a number from 2 to 256. `None` comes exactly where the word is none.
 fn read_sessions(word: &str) -> Option<u32>
     ensures number { result ≡ sessions_of word.now }
-    ensures within { IfSome result (λ sessions. (2 ≤ sessions) × (sessions ≤ 256)) }
+    ensures within { IfSome result (λ sessions. (2 ≤ sessions) × (sessions ≤ PARTY_LIMIT)) }
 {
     match number(word.as_bytes()) {
-        Some(sessions) if 2 <= sessions && sessions <= 256 => Some(sessions as u32),
+        Some(sessions) if 2 <= sessions && sessions <= PARTY_LIMIT as u64 => Some(sessions as u32),
         _ => None,
     }
 }
@@ -71,7 +72,7 @@ fn is_serve(verb: &str, licence: &str, options: &str, socket: &str, more: &[Stri
 pub fn read_serve(words: &[String]) -> Option<ServeNames<'_>>
     ensures serve { option_map serve_named result ≡ serve_of (map string_bytes words.now) }
     ensures few { IfSome result (λ names. length names.more.now ≤ 3) }
-    ensures within { IfSome result (λ names. (2 ≤ names.sessions) × (names.sessions ≤ 256)) }
+    ensures within { IfSome result (λ names. (2 ≤ names.sessions) × (names.sessions ≤ PARTY_LIMIT)) }
 {
     let [verb, licence, options, socket, sessions, more @ ..] = words else {
         return None;
@@ -97,7 +98,7 @@ pub fn read_serve(words: &[String]) -> Option<ServeNames<'_>>
 pub fn serve_words(words: &Words) -> Option<ServeNames<'_>>
     ensures serve { option_map serve_named result ≡ serve_in words.now }
     ensures few { IfSome result (λ names. length names.more.now ≤ 3) }
-    ensures within { IfSome result (λ names. (2 ≤ names.sessions) × (names.sessions ≤ 256)) }
+    ensures within { IfSome result (λ names. (2 ≤ names.sessions) × (names.sessions ≤ PARTY_LIMIT)) }
 {
     match words {
         Words::Text(words) => read_serve(words.as_slice()),

@@ -1,6 +1,7 @@
 ghost use Rattle.std.specs.Prelude.{◌≡◌, IfSome, map, string_bytes};
 ghost use Rattle.licence_main.specs.Trial.{IsWithinTrial, trial_in, trial_of};
 
+use lic_types::{LICENCE_LIMIT, PARTY_LIMIT};
 use licence_tool::{Words, number_within};
 
 /// What a `trial-threads` asks for.
@@ -26,8 +27,8 @@ pub fn read_trial(words: &[String]) -> Option<TrialNumbers>
     if verb.as_str() != "trial-threads" {
         return None;
     }
-    let clients = number_within(clients.as_str(), 2, 256)?;
-    let seats = number_within(seats.as_str(), 1, 65_535)?;
+    let clients = number_within(clients.as_str(), 2, PARTY_LIMIT as u64)?;
+    let seats = number_within(seats.as_str(), 1, LICENCE_LIMIT as u64)?;
     let rounds = number_within(rounds.as_str(), 1, 10_000)?;
     Some(TrialNumbers {
         clients,

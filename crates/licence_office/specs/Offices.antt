@@ -1,5 +1,6 @@
 -- What an office and its passes are to whoever has them.
 use Rattle.std.specs.Prelude.{◌≡◌, ℕ, ◌+◌, ◌*◌, ◌<◌, Bool, ◌&&◌, nat_le, nat_lt, is_some, List, [], get_or, length, map, min, Vec}
+use Rattle.lic_types.specs.declared.limits.TheConstants.{PARTY_LIMIT}
 use Rattle.counter.specs.Account.{Account}
 use Rattle.desk_seats.specs.Views.{parties_of}
 use Rattle.feature_desk.specs.Closings.{Rests}
@@ -16,7 +17,7 @@ pub record OfficeSeen : Type 0 where
 
 -- whether a fast gate stands before the seats of so many licences: there are more than twice as many parties as seats, and the two numbers together are at most 256
 abbrev pub has_gate : ℕ → ℕ → Bool
-has_gate parties count = nat_lt (2 * min count parties) parties && nat_le (parties + min count parties) 256
+has_gate parties count = nat_lt (2 * min count parties) parties && nat_le (parties + min count parties) PARTY_LIMIT
 
 -- a desk of a pool for n parties: it has the rules that each options file gives the pool, in order, and as many seats as the pool has licences, but not more than there are parties
 pub record IsDeskFor (sets : List OptionsFile) (n : ℕ) (pool : Pool) (d : DeskView) : Type 0 where

@@ -1,5 +1,6 @@
 //! How an office is made.
 ghost use Rattle.std.specs.Prelude.{◌≡◌, ◌<◌, ◌≤◌, ℕ, [], ◌∷◌, All, EachIndex, IfOk, Some, get_or, length, map, slice_get, vec_len, vec_capacity};
+ghost use Rattle.lic_types.specs.declared.limits.TheConstants.{PARTY_LIMIT};
 ghost use Rattle.feature_desk.specs.Closings.{IsKeeperOf};
 ghost use Rattle.feature_desk.specs.Sitters.{DeskView, newcomer};
 ghost use Rattle.feature_lines.specs.declared.pool.Pool.{Pool};
@@ -40,7 +41,7 @@ fn sets_of(alloc: Global, pool: &Pool, sets: &[Options]) -> Result<Vec<DeskRules
 
 // Whether a fast gate stands before the seats of so many licences, for so many parties.
 fn has_gate(parties: u32, count: u32) -> bool
-    requires { parties ≤ 256 }
+    requires { parties ≤ PARTY_LIMIT }
     ensures { result ≡ has_gate parties count }
 {
     let seats = count.min(parties);
@@ -56,7 +57,7 @@ fn make_desk<R: Wait>(
     sets: &[Options],
     parties: u32,
 ) -> Result<(Desk, Vec<DeskPass>, DeskKeeper), NoMemory>
-    requires parties { (2 ≤ parties) × (parties ≤ 256) }
+    requires parties { (2 ≤ parties) × (parties ≤ PARTY_LIMIT) }
     requires sets { (1 ≤ length sets.now) × (length sets.now ≤ 4) }
     requires count { 1 ≤ pool.now.count }
     ensures desk { IfOk result (λ made. IsDeskFor sets.now parties pool.now made.0) }
@@ -81,7 +82,7 @@ fn open_all<R: Wait>(
     parties: &mut [OfficePass],
     rooms: Opened,
 ) -> Result<Opened, NoMemory>
-    requires parties { (2 ≤ length parties.old) × (length parties.old ≤ 256) }
+    requires parties { (2 ≤ length parties.old) × (length parties.old ≤ PARTY_LIMIT) }
     requires sets { (1 ≤ length sets.now) × (length sets.now ≤ 4) }
     requires counts { All (λ p. 1 ≤ p.count) pools.now }
     requires passes { All (IsRoomFor (length pools.now)) parties.old }
@@ -128,7 +129,7 @@ impl Office {
         options: &Options,
         parties: u32,
     ) -> Result<(Office, Vec<OfficePass>, OfficeLogs), NoMemory>
-        requires { (2 ≤ parties) × (parties ≤ 256) }
+        requires { (2 ≤ parties) × (parties ≤ PARTY_LIMIT) }
         ensures view { IfOk result (λ made. (made.0.view.pools ≡ licence.now.pools) × (made.0.view.sets ≡ 1) × (made.0.parties ≡ parties)) }
         ensures desks { IfOk result (λ made. (j : ℕ) (p : Pool) (d : DeskView) → j < length licence.now.pools → IsDeskFor (options.now ∷ []) parties (get_or licence.now.pools j p) (get_or made.0.view.desks j d)) }
         ensures passes { IfOk result (λ made. (vec_len made.1 ≡ parties) × AreDealt made.0.view.desks made.1.items) }
@@ -150,7 +151,7 @@ impl Office {
         sets: &[Options],
         parties: u32,
     ) -> Result<(Office, Vec<OfficePass>, OfficeLogs), NoMemory>
-        requires parties { (2 ≤ parties) × (parties ≤ 256) }
+        requires parties { (2 ≤ parties) × (parties ≤ PARTY_LIMIT) }
         requires sets { (1 ≤ length sets.now) × (length sets.now ≤ 4) }
         ensures view { IfOk result (λ made. (made.0.view.pools ≡ licence.now.pools) × (made.0.view.sets ≡ length sets.now) × (made.0.parties ≡ parties)) }
         ensures desks { IfOk result (λ made. (j : ℕ) (p : Pool) (d : DeskView) → j < length licence.now.pools → IsDeskFor sets.now parties (get_or licence.now.pools j p) (get_or made.0.view.desks j d)) }

@@ -69,7 +69,7 @@ pub enum Third {
 const MORE_LIMIT: usize = 3;
 
 /// The most events that a trial may have.
-const MOST_EVENTS: u64 = 1_000_000;
+const EVENT_LIMIT: u64 = 1_000_000;
 
 /// Whether a word may name a file: it isn't empty and doesn't begin with `-`.
 pub fn is_plain_word(word: &str) -> bool
@@ -135,7 +135,7 @@ fn read_events(words: &[String]) -> Option<u32>
     let [word] = words else {
         return None;
     };
-    number_within(word.as_str(), 1, MOST_EVENTS)
+    number_within(word.as_str(), 1, EVENT_LIMIT)
 }
 
 /// The command that the words are, without the program's name. `None` comes exactly where they are neither `check` and

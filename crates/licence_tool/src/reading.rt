@@ -27,7 +27,7 @@ fn read_file<F: Files>(
     position: u8,
 ) -> Result<Vec<u8>, Status>
     ensures says { IsHeard (λ v. v.items) (heard position) (HasFailed (F.failed files.old) (F.failed files.new)) (F.contents files.old name.now) result }
-    ensures short { IfOk result (λ v. vec_len v ≤ 1048576) }
+    ensures short { IfOk result (λ v. vec_len v ≤ FILE_LIMIT) }
     ensures asked { Asks position (name.now ∷ []) (F.asked files.old) (F.asked files.new) (F.failed files.old) (F.failed files.new) (status_of result) }
     ensures later { length (F.failed files.old) ≤ length (F.failed files.new) }
     ensures same { (other : List ℕ) → F.contents files.new other ≡ F.contents files.old other }

@@ -12,7 +12,7 @@ use lic_text::{Words, number, words_in};
 use lic_types::{Client, Name, Version};
 
 /// The numbers of rule sets are below this.
-const SET_LIMIT: u64 = 1 << 32;
+const SET_END: u64 = 1 << 32;
 
 /// The first word of a request.
 #[derive(Clone, Copy)]
@@ -173,7 +173,7 @@ fn read_number(word: &[u8]) -> Result<u32, WireFault>
     ensures { result ≡ set_within (number_of word.now) }
 {
     match number(word) {
-        Some(set) if set < SET_LIMIT => Ok(set as u32),
+        Some(set) if set < SET_END => Ok(set as u32),
         _ => Err(WireFault::BadNumber),
     }
 }

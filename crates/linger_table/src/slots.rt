@@ -1,6 +1,7 @@
 //! Slots for seats that linger, with a mark and a deadline for each seat.
 ghost use Rattle.std.specs.Prelude.{◌≡◌, ◌+◌, ◌*◌, ◌<◌, ◌≤◌, ◌++◌, ◌∷◌, [], None, Some, false, ◌==◌, ◌&&◌, filter, length, take, slice_index_or, slice_set, zip, IfOk, IfSome, IfNone, IsTrue};
 ghost use Rattle.std.specs.List.{position};
+ghost use Rattle.lic_types.specs.declared.limits.TheConstants.{LINGER_LIMIT};
 ghost use Rattle.linger_table.specs.Slots.{HasEntry, HasNoneFrom, LetsSlotGo, SlotList, entries_in, slot_is_of, slot_of};
 ghost use Rattle.linger_table.specs.Table.{stays_at};
 
@@ -63,7 +64,7 @@ fn first_marked(
 impl Slots {
     /// No slots yet, for this many seats.
     pub fn make(alloc: Global, room: u32) -> Result<Slots, NoMemory>
-        requires { room ≤ 4096 }
+        requires { room ≤ LINGER_LIMIT }
         ensures { IfOk result (λ slots. slots ≡ record { room = room; slots = [] }) }
     {
         let most = 2 * room as usize;
@@ -91,7 +92,7 @@ impl Slots {
     pub fn count(&self) -> usize
         ensures count { result ≡ length self.now.slots }
         ensures within { result ≤ 2 * self.now.room }
-        ensures few { self.now.room ≤ 4096 }
+        ensures few { self.now.room ≤ LINGER_LIMIT }
     {
         self.slots.len()
     }

@@ -1,5 +1,6 @@
 //! The table of the seats that linger.
 ghost use Rattle.std.specs.Prelude.{◌≡◌, ◌+◌, ◌<◌, ◌≤◌, ◌++◌, ◌∷◌, [], Bool, if◌then◌else◌, count_by, filter, find, length, slice_get, slice_set, IfOk, IfSome, IfNone};
+ghost use Rattle.lic_types.specs.declared.limits.TheConstants.{LINGER_LIMIT};
 ghost use Rattle.options_machine.specs.Decide.{is_left_by};
 ghost use Rattle.options_machine.specs.Settle.{without_first};
 ghost use Rattle.options_machine.specs.declared.rows.Lingerer.{Lingerer};
@@ -33,7 +34,7 @@ impl LingerTable {
     /// An empty table with room for `room` entries. All its memory is taken here, and no other call takes any.
     /// `NoMemory` comes where there was too little.
     pub fn make(alloc: Global, room: u32) -> Result<LingerTable, NoMemory>
-        requires { room ≤ 4096 }
+        requires { room ≤ LINGER_LIMIT }
         ensures { IfOk result (λ table. table ≡ record { room = room; entries = [] }) }
     {
         Ok(LingerTable {

@@ -1,4 +1,5 @@
-use Rattle.std.specs.Prelude.{◌≡◌, ℕ, ◌+◌, ◌*◌, ◌<◌, ◌≤◌, ◌^◌, Bool, true, nat_lt, if◌then◌else◌, List, ◌++◌, length, Option, None, Some, IfSome, option_to_list}
+use Rattle.std.specs.Prelude.{◌≡◌, ℕ, ◌+◌, ◌*◌, ◌<◌, ◌≤◌, Bool, true, nat_lt, if◌then◌else◌, List, ◌++◌, length, Option, None, Some, IfSome, option_to_list}
+use Rattle.lic_types.specs.declared.limits.TheConstants.{LICENCE_LIMIT, MOMENT_END}
 use Rattle.options_machine.specs.Run.{AsksForSet}
 use Rattle.options_machine.specs.State.{State}
 use Rattle.options_machine.specs.Step.{set_asked, step}
@@ -67,10 +68,10 @@ pub record IsSmallSum (entries now : ℕ) (sum : DaySum) : Type 0 where
   pub denied : sum.denied ≤ entries
   pub noseat : sum.noseat ≤ entries
   pub grants : sum.grants ≤ entries
-  pub seconds : sum.seconds ≤ 65535 * now
+  pub seconds : sum.seconds ≤ LICENCE_LIMIT * now
 
 -- the desk's numbers are those of a pool of at most 65,535 licences
 pub record IsSmall (d : Desk) : Type 0 where
-  pub now : d.book.state.now < 2 ^ 40
-  pub held : length d.book.state.holders ≤ 65535
+  pub now : d.book.state.now < MOMENT_END
+  pub held : length d.book.state.holders ≤ LICENCE_LIMIT
   pub last : IfSome d.days.last (IsSmallSum d.entries d.book.state.now)

@@ -1,5 +1,6 @@
 use Rattle.std.specs.Prelude.{◌≡◌, ℕ, ◌*◌, ◌<◌, ◌≤◌, Bool, true, false, ◌==◌, List, [], ◌∷◌, ◌++◌, get_or, length, map, Option, None, Some}
 use Rattle.std.specs.List.{AllByRecursion, list_any}
+use Rattle.lic_types.specs.declared.limits.TheConstants.{LICENCE_LIMIT, PARTY_LIMIT}
 use Rattle.feature_lines.specs.declared.pool.Pool.{Pool}
 use Rattle.options_machine.specs.Law.{AreSets}
 use Rattle.options_machine.specs.Rules.{Rules}
@@ -35,7 +36,7 @@ pub record IsDay (sets : List Rules) (pool : ℕ) (es : List Entry) (over : List
   pub some : has_entry sum.day es ≡ true
   pub now : sum.day ≡ day_of (after sets es).now
   pub later : (day : ℕ) → sum.day < day → IsIdle sets pool es day
-  pub seconds : sum.seconds ≤ 65535 * (after sets es).now
+  pub seconds : sum.seconds ≤ LICENCE_LIMIT * (after sets es).now
 
 abbrev pub AreSummedAt : List Rules → ℕ → List Entry → List DaySum → Option DaySum → Type 0
 AreSummedAt sets pool es over None = (es ≡ []) × (over ≡ [])
@@ -48,13 +49,13 @@ AreSummed sets pool es r = AreSummedAt sets pool es r.over r.last
 -- the desk of the pool of this number stands where these entries, which are a run, leave it
 pub record StandsAt (sets : List Rules) (pool : ℕ) (xs : List Numbered) (d : Desk) : Type 0 where
   pub rules : d.book.sets ≡ sets
-  pub parties : d.book.parties ≡ 256
+  pub parties : d.book.parties ≡ PARTY_LIMIT
   pub reached : d.book.state ≡ after sets (map entry_of xs)
   pub counted : d.entries ≡ length xs
   pub run : IsRunOf sets xs
   pub summed : AreSummed sets pool (map entry_of xs) d.days
   pub lawful : AreSets sets (set_at sets 0).count
-  pub few : (set_at sets 0).count ≤ 65535
+  pub few : (set_at sets 0).count ≤ LICENCE_LIMIT
 
 -- each desk stands where its pool's entries leave it
 pub record StandAll (pools : List (List Rules)) (xs : List Numbered) (desks : List Desk) : Type 0 where
@@ -70,4 +71,4 @@ HasLawfulSets d = AreSets d.book.sets (set_at d.book.sets 0).count
 
 -- the desk of a pool before the first entry, with one rule set for each options file
 abbrev pub desk_of : List OptionsFile → Pool → Desk
-desk_of files pool = record { book = record { sets = map (rules_of pool) files; parties = 256; state = opening }; entries = 0; days = record { over = []; last = None } }
+desk_of files pool = record { book = record { sets = map (rules_of pool) files; parties = PARTY_LIMIT; state = opening }; entries = 0; days = record { over = []; last = None } }

@@ -1,4 +1,5 @@
-use Rattle.std.specs.Prelude.{◌≡◌, ℕ, ◌^◌, Bool, true, ◌&&◌, not, nat_lt, if◌then◌else◌, List, filter, map, Option, None, Some, Result, Ok, Err}
+use Rattle.std.specs.Prelude.{◌≡◌, ℕ, Bool, true, ◌&&◌, not, nat_lt, if◌then◌else◌, List, filter, map, Option, None, Some, Result, Ok, Err}
+use Rattle.lic_types.specs.declared.limits.TheConstants.{MOMENT_END, PARTY_LIMIT}
 use Rattle.lic_text.specs.Lines.{Worded, lines_of}
 use Rattle.lic_text.specs.declared.fault.TextFault.{TextFault}
 use Rattle.script_words.specs.Firsts.{all_or_first_fault}
@@ -46,4 +47,4 @@ IsRefused log NoMemory = Unit {0}
 
 -- an entry of one of so many pools, at a moment and of a party that there may be
 abbrev pub is_fit : ℕ → Numbered → Bool
-is_fit pools x = nat_lt x.logged.pool pools && (nat_lt x.logged.entry.moment (2 ^ 40) && nat_lt x.logged.entry.request.party 256)
+is_fit pools x = nat_lt x.logged.pool pools && (nat_lt x.logged.entry.moment MOMENT_END && nat_lt x.logged.entry.request.party PARTY_LIMIT)

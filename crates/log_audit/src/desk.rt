@@ -1,5 +1,6 @@
 //! The book of a pool, and what it says of a log's next entry.
 ghost use Rattle.std.specs.Prelude.{◌≡◌, ◌-◌, ◌+◌, ◌<◌, ◌^◌, IfOk, MatchOption};
+ghost use Rattle.lic_types.specs.declared.limits.TheConstants.{MOMENT_END};
 ghost use Rattle.options_machine.specs.Run.{AsksForSet};
 ghost use Rattle.log_audit.specs.Desks.{IsExpected, IsNext, IsSmall, Says, moved_by, moved_on, with_next};
 
@@ -78,7 +79,7 @@ impl Desk {
     pub(crate) fn take(&mut self, entry: &Logged) -> Result<Option<Expected>, NoMemory>
         requires party { entry.now.entry.request.party < self.old.book.parties }
         requires few { self.old.entries < 2 ^ 64 - 1 }
-        requires moment { entry.now.entry.moment < 2 ^ 40 }
+        requires moment { entry.now.entry.moment < MOMENT_END }
         requires small { IsSmall self.old }
         ensures { IfOk result (λ found. MatchOption found (IsNext self.old entry.now × (self.new ≡ with_next self.old entry.now)) (λ expected. (IsNext self.old entry.now → ⊥) × IsExpected self.old entry.now expected)) }
     {

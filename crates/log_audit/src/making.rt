@@ -9,13 +9,10 @@ ghost use Rattle.log_audit.specs.Kept.{HasLawfulSets, desk_of};
 use crate::days::Days;
 use crate::desk::Desk;
 use feature_lines::Pool;
-use lic_types::NoMemory;
+use lic_types::{NoMemory, PARTY_LIMIT};
 use options_text::Options;
 use policy::{DeskRules, PlainBook};
 use std::alloc::Global;
-
-/// How many parties a log may speak of.
-const PARTIES: u32 = 256;
 
 /// The rule sets of a pool, one for each options file.
 fn sets_of(alloc: Global, pool: &Pool, options: &[Options]) -> Result<Vec<DeskRules>, NoMemory>
@@ -36,7 +33,7 @@ fn make_desk(alloc: Global, pool: &Pool, options: &[Options]) -> Result<Desk, No
     ensures lawful { IfOk result HasLawfulSets }
 {
     let sets = sets_of(alloc, pool, options)?;
-    let book = PlainBook::make_many(alloc, sets, PARTIES)?;
+    let book = PlainBook::make_many(alloc, sets, PARTY_LIMIT)?;
     Ok(Desk {
         book,
         entries: 0,

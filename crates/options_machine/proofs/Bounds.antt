@@ -2,6 +2,7 @@ use Rattle.std.proofs.Common.{◌≡◌, ℕ, ◌+◌, ◌-◌, ◌<◌, ◌≤�
 use Rattle.std.specs.List.{count_by}
 use Rattle.std.proofs.lemmas.Bool.{eqb-true, eqb-false, leb-true, leb-false, le-leb}
 use Rattle.lic_types.specs.declared.client.Client.{Client}
+use Rattle.lic_types.specs.declared.limits.TheConstants.{LINGER_LIMIT}
 use Rattle.options_machine.specs.declared.decision.Decision.{Decision}
 use Rattle.options_machine.specs.declared.decision.Decision.TheVariants.{Barred, Retake, Capped, Grant, Full}
 use Rattle.options_machine.specs.declared.effect.Effect.{Effect}
@@ -14,7 +15,7 @@ use Rattle.options_machine.specs.Rules.{Rules}
 use Rattle.options_machine.specs.State.{State, entries, is_holder, is_queuer}
 use Rattle.options_machine.specs.Decide.{decide, is_left_by}
 use Rattle.options_machine.specs.Settle.{in_time, moved, serve, settle, timely, with_offer, with_queuer, with_seat, without_first}
-use Rattle.options_machine.specs.Apply.{Fits, apply, most_lingering, told_if, with_told, without_holder, without_queuer}
+use Rattle.options_machine.specs.Apply.{Fits, apply, told_if, with_told, without_holder, without_queuer}
 use Rattle.options_machine.specs.Step.{holders_anew, next_charge, with_charges_anew}
 use Rattle.options_machine.specs.Kept.{IsBounded, entries_by}
 use Rattle.options_machine.proofs.Counts.{count-cons, count-append, count-push, count-with_holder, count-filter_le, length-filter_le, count-map}
@@ -200,7 +201,7 @@ serve_lingering r s (q ∷ qs) = omega (arith, serve_lingering r (with_offer s q
 pub settle_lingering : (r : Rules) (s : State) (moment : ℕ) → length (settle r s moment).lingering ≤ length s.lingering
 settle_lingering r s moment = omega (arith, serve_lingering r (record (timely r s moment) { queue = [] }) s.queue, length-filter_le (λ (l : Lingerer). ltb (moved s.now moment) l.until) s.lingering)
 
-lingering_apply : (r : Rules) (s : State) (party : ℕ) (client : Client) (x : Effect) → Fits r s party client x → length s.lingering ≤ most_lingering → length (apply s party client x).lingering ≤ most_lingering
+lingering_apply : (r : Rules) (s : State) (party : ℕ) (client : Client) (x : Effect) → Fits r s party client x → length s.lingering ≤ LINGER_LIMIT → length (apply s party client x).lingering ≤ LINGER_LIMIT
 lingering_apply r s party client (Linger l) (h, e, who, same, room) k = omega (arith, room, length-append s.lingering (l ∷ []))
 lingering_apply r s party client (Reseat charge) f k = omega (arith, without_length (is_left_by client) s.lingering, k)
 lingering_apply r s party client other f k = k

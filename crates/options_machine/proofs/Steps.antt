@@ -4,6 +4,7 @@ use Rattle.std.specs.Option.{option_map}
 use Rattle.std.proofs.lemmas.List.{length-map}
 use Rattle.std.proofs.lemmas.Bool.{eqb-true, ltb-true}
 use Rattle.lic_types.specs.declared.client.Client.{Client}
+use Rattle.lic_types.specs.declared.limits.TheConstants.{LINGER_LIMIT}
 use Rattle.options_machine.specs.declared.decision.Decision.{Decision}
 use Rattle.options_machine.specs.declared.decision.Decision.TheVariants.{Barred, Retake, Capped, Grant, Full}
 use Rattle.options_machine.specs.declared.decision.Place.{Place}
@@ -25,7 +26,7 @@ use Rattle.options_machine.specs.Rules.{IsSound, Rules, applies, cut_of}
 use Rattle.options_machine.specs.State.{State, charges, entries, in_force, in_use, is_holder, is_queuer, place, place_of, place_of_holder, same_charge, set_at}
 use Rattle.options_machine.specs.Decide.{decide, number_of_limit}
 use Rattle.options_machine.specs.Settle.{moved, serve, settle, timely, with_offer, with_queuer, with_seat, with_seat_again}
-use Rattle.options_machine.specs.Apply.{Fits, IsPlace, apply, most_lingering, told_if, with_lingerer, with_told, without_holder, without_queuer}
+use Rattle.options_machine.specs.Apply.{Fits, IsPlace, apply, told_if, with_lingerer, with_told, without_holder, without_queuer}
 use Rattle.options_machine.specs.Step.{answer_by_decision, answer_of, answer_of_return, entry_left, holders_anew, lingering_anew, lingers, next_charge, reserve_or_open, set_of, standing_of, step, step_of_task, task, times, to_away, to_told, to_untold, to_waiting, with_charges_anew}
 use Rattle.options_machine.specs.Run.{AsksForSet, IsBelow}
 use Rattle.options_machine.specs.Law.{AreSets}
@@ -153,8 +154,8 @@ of_party party s h e = eqb-true h.party party (find_passes (is_holder party) s.h
 
 -- each effect of the table fits
 
-room_left : (r : Rules) (s : State) → lingers r s ≡ true → length s.lingering < most_lingering
-room_left r s e = ltb-true _ _ (and_right (ltb 0 r.linger) (ltb (length s.lingering) most_lingering) e)
+room_left : (r : Rules) (s : State) → lingers r s ≡ true → length s.lingering < LINGER_LIMIT
+room_left r s e = ltb-true _ _ (and_right (ltb 0 r.linger) (ltb (length s.lingering) LINGER_LIMIT) e)
 
 fits_given_back : (r : Rules) (s : State) (party : ℕ) (client : Client) (h : Holder) (b : Bool) → lingers r s ≡ b → find (is_holder party) s.holders ≡ Some h → Fits r s party client (answer_of_return (entry_left r s h)).1
 fits_given_back r s party client h true g e = rw g (h, e, refl, refl, room_left r s g)

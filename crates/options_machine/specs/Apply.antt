@@ -1,5 +1,6 @@
 use Rattle.std.specs.Prelude.{◌≡◌, ℕ, ◌<◌, Bool, true, false, not, [], ◌∷◌, ◌++◌, None, Some, filter, find, length, map}
 use Rattle.lic_types.specs.declared.client.Client.{Client}
+use Rattle.lic_types.specs.declared.limits.TheConstants.{LINGER_LIMIT}
 use Rattle.options_machine.specs.declared.decision.Decision.TheVariants.{Full, Grant, Retake}
 use Rattle.options_machine.specs.declared.decision.Place.{Place}
 use Rattle.options_machine.specs.declared.decision.Place.TheVariants.{Told, Untold, Waiting, Away}
@@ -12,10 +13,6 @@ use Rattle.options_machine.specs.Rules.{Rules}
 use Rattle.options_machine.specs.State.{State, is_holder, is_queuer}
 use Rattle.options_machine.specs.Decide.{decide}
 use Rattle.options_machine.specs.Settle.{with_queuer, with_seat, with_seat_again}
-
--- at most so many entries linger
-abbrev pub most_lingering : ℕ
-most_lingering = 4096
 
 abbrev pub told_if : Bool → ℕ → Holder → Holder
 told_if true now h = record h { told = true; beat = now }
@@ -68,7 +65,7 @@ abbrev pub Fits : Rules → State → ℕ → Client → Effect → Type 0
 Fits r s party client Nothing = Unit {0}
 Fits r s party client Tell = HasSeat s party
 Fits r s party client Release = HasSeat s party
-Fits r s party client (Linger l) = (h : Holder) × (find (is_holder party) s.holders ≡ Some h) × (l.client ≡ h.client) × (l.charge ≡ h.charge) × (length s.lingering < most_lingering)
+Fits r s party client (Linger l) = (h : Holder) × (find (is_holder party) s.holders ≡ Some h) × (l.client ≡ h.client) × (l.charge ≡ h.charge) × (length s.lingering < LINGER_LIMIT)
 Fits r s party client Unqueue = Waits s party
 Fits r s party client (Seat charge) = IsPlace s party Away × (decide r s client ≡ Grant charge)
 Fits r s party client (Reseat charge) = IsPlace s party Away × (decide r s client ≡ Retake charge)

@@ -1,7 +1,8 @@
-use Rattle.std.specs.Prelude.{◌≡◌, ℕ, ◌+◌, ◌≤◌, ◌<◌, ◌^◌, Bool, count_by, true, false, ◌&&◌, nat_le, nat_lt, List, [], ◌∷◌, length}
+use Rattle.std.specs.Prelude.{◌≡◌, ℕ, ◌+◌, ◌≤◌, ◌<◌, Bool, count_by, true, false, ◌&&◌, nat_le, nat_lt, List, [], ◌∷◌, length}
 use Rattle.std.specs.List.{list_all, list_any}
 use Rattle.std.specs.Option.{is_none}
 use Rattle.lic_types.specs.declared.client.Client.{Client}
+use Rattle.lic_types.specs.declared.limits.TheConstants.{MOMENT_END}
 use Rattle.options_machine.specs.declared.decision.Decision.TheVariants.{Grant}
 use Rattle.options_machine.specs.declared.limits.Limit.{Limit}
 use Rattle.options_machine.specs.declared.reply.Charge.{Charge}
@@ -69,12 +70,12 @@ OpenStaysFree = (sets : List Rules) (count : ℕ) (h : List Entry) → AreSets s
 
 -- a step at the handed moment is the step at the moment that it used, which is that of the state after it; this is not before the state's own, and below 2^40 if that is
 abbrev pub StepsUseTheirMoment : Type 0
-StepsUseTheirMoment = (sets : List Rules) (s : State) (request : Request) (moment : ℕ) → s.now < 2 ^ 40
+StepsUseTheirMoment = (sets : List Rules) (s : State) (request : Request) (moment : ℕ) → s.now < MOMENT_END
     → (step sets s request (moved s.now moment) ≡ step sets s request moment)
     × ((step sets s request moment).1.now ≡ moved s.now moment)
     × (s.now ≤ moved s.now moment)
-    × (moved s.now moment < 2 ^ 40)
+    × (moved s.now moment < MOMENT_END)
 
 -- the moment of every state of a run is below 2^40
 abbrev pub MomentsAreBounded : Type 0
-MomentsAreBounded = (sets : List Rules) (h : List Entry) → IsRun sets h → (after sets h).now < 2 ^ 40
+MomentsAreBounded = (sets : List Rules) (h : List Entry) → IsRun sets h → (after sets h).now < MOMENT_END

@@ -2,6 +2,7 @@ use Rattle.std.specs.Prelude.{ℕ, ◌+◌, Bool, true, false, ◌&&◌, nat_lt,
 use Rattle.std.specs.List.{position_or_len}
 use Rattle.std.specs.Option.{option_map}
 use Rattle.lic_types.specs.declared.client.Client.{Client}
+use Rattle.lic_types.specs.declared.limits.TheConstants.{LINGER_LIMIT}
 use Rattle.options_machine.specs.declared.decision.Decision.{Decision}
 use Rattle.options_machine.specs.declared.decision.Decision.TheVariants.{Barred, Retake, Capped, Grant, Full}
 use Rattle.options_machine.specs.declared.decision.Place.{Place}
@@ -26,7 +27,7 @@ use Rattle.options_machine.specs.Rules.{Rules, applies}
 use Rattle.options_machine.specs.State.{State, charges, in_force, is_queuer, place, same_charge, set_at}
 use Rattle.options_machine.specs.Decide.{decide, number_of_limit}
 use Rattle.options_machine.specs.Settle.{settle}
-use Rattle.options_machine.specs.Apply.{apply, most_lingering}
+use Rattle.options_machine.specs.Apply.{apply}
 
 -- what a kind of request makes a desk do: Checkin and Quit give back, Queue asks for a seat as Checkout does and may wait
 abbrev pub task : Kind → Task
@@ -49,7 +50,7 @@ set_asked k = set_of (task k)
 
 -- whether a seat that is given back lingers: there is a linger time, and room
 abbrev pub lingers : Rules → State → Bool
-lingers r s = nat_lt 0 r.linger && nat_lt (length s.lingering) most_lingering
+lingers r s = nat_lt 0 r.linger && nat_lt (length s.lingering) LINGER_LIMIT
 
 -- the party's position in the queue, from 1
 abbrev pub position_of : State → ℕ → ℕ

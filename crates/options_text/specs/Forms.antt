@@ -1,4 +1,4 @@
-use Rattle.std.specs.Prelude.{ℕ, ◌^◌, Bool, nat_lt, ◌==◌, if◌then◌else◌, List, [], ◌∷◌, Option, None, Some, Result, Ok, Err}
+use Rattle.std.specs.Prelude.{ℕ, Bool, nat_lt, ◌==◌, if◌then◌else◌, List, [], ◌∷◌, Option, None, Some, Result, Ok, Err}
 use Rattle.std.specs.List.{list_any}
 use Rattle.lic_text.specs.Number.{number_of}
 use Rattle.lic_types.specs.Name.{name_of}
@@ -9,6 +9,7 @@ use Rattle.lic_types.specs.declared.client.RuleLine.{RuleLine}
 use Rattle.lic_types.specs.declared.client.Who.{Who}
 use Rattle.lic_types.specs.declared.name.NameFault.{NameFault}
 use Rattle.lic_types.specs.declared.note.NoteKind.TheVariants.{NotActed}
+use Rattle.lic_types.specs.declared.limits.TheConstants.{LICENCE_LIMIT, MOMENT_END}
 use Rattle.options_text.specs.Answers.{◌>>=◌}
 use Rattle.options_text.specs.Keywords.{keyword_of, kind_of}
 use Rattle.options_text.specs.declared.entry.Entry.{Entry}
@@ -103,7 +104,7 @@ admits_all_of line access words = Err (MissingWord line)
 -- `RESERVE number feature type name`, or MAX
 unfoldable pub shares_of : ℕ → Share → List (List ℕ) → Result RuleLine OptionsFault
 shares_of line share (number ∷ feature ∷ kind ∷ name ∷ others) = do
-  n ← number_below line (2 ^ 16) number
+  n ← number_below line (LICENCE_LIMIT + 1) number
   f ← feature_of line feature
   who ← who_of line kind name
   Ok (record { line = line; feature = Some f; rule = share_rule share n; who = Some who })
@@ -113,14 +114,14 @@ shares_of line share words = Err (MissingWord line)
 unfoldable pub times_of : ℕ → Span → List (List ℕ) → Result RuleLine OptionsFault
 times_of line span (feature ∷ seconds ∷ others) = do
   f ← feature_of line feature
-  n ← number_below line (2 ^ 40) seconds
+  n ← number_below line MOMENT_END seconds
   Ok (record { line = line; feature = Some f; rule = span_rule span n; who = None })
 times_of line span words = Err (MissingWord line)
 
 -- `TIMEOUTALL seconds`
 unfoldable pub times_all_of : ℕ → List (List ℕ) → Result RuleLine OptionsFault
 times_all_of line (seconds ∷ others) = do
-  n ← number_below line (2 ^ 40) seconds
+  n ← number_below line MOMENT_END seconds
   Ok (record { line = line; feature = None; rule = Timeout n; who = None })
 times_all_of line words = Err (MissingWord line)
 

@@ -1,4 +1,4 @@
-ghost use Rattle.std.specs.Prelude.{◌≡◌, ◌<◌, ◌^◌, ◌∷◌, IfOk, true};
+ghost use Rattle.std.specs.Prelude.{◌≡◌, ◌<◌, ◌∷◌, IfOk, true};
 ghost use Rattle.lic_text.specs.Left.{words_left};
 ghost use Rattle.options_text.specs.Answers.{IsAnswer};
 ghost use Rattle.options_text.specs.Entries.{is_within_limits};
@@ -7,14 +7,8 @@ ghost use Rattle.options_text.specs.Forms.{access_rule, admits_all_of, admits_of
 use crate::fault::OptionsFault;
 use crate::keyword::{Access, Share, Span, read_kind};
 use lic_text::{Words, number};
-use lic_types::{Group, Name, Rule, RuleLine, Who};
+use lic_types::{Group, LICENCE_LIMIT, MOMENT_END, Name, Rule, RuleLine, Who};
 use std::alloc::Global;
-
-/// The numbers of MAX and RESERVE are below this.
-const SHARE_LIMIT: u64 = 1 << 16;
-
-/// Seconds are below this.
-const SECONDS_LIMIT: u64 = 1 << 40;
 
 /// The number that a word spells, where it is below the limit.
 fn read_number(line: u32, word: &[u8], limit: u64) -> Result<u64, OptionsFault>
@@ -152,7 +146,7 @@ pub fn read_admits_all(
 
 /// RESERVE or MAX with this number.
 fn share_rule(share: Share, number: u64) -> Rule
-    requires { number < 2 ^ 16 }
+    requires { number ≤ LICENCE_LIMIT }
     ensures rule { result ≡ share_rule share number }
     ensures fit { is_within_limits result ≡ true }
 {
@@ -174,7 +168,7 @@ pub fn read_shares(line: u32, share: Share, words: Words<'_>) -> Result<RuleLine
     let feature = words.next().ok_or(missing)?;
     let kind = words.next().ok_or(missing)?;
     let name = words.next().ok_or(missing)?;
-    let number = read_number(line, number, SHARE_LIMIT)?;
+    let number = read_number(line, number, LICENCE_LIMIT as u64 + 1)?;
     let feature = read_feature(line, feature)?;
     let who = read_who(line, kind, name)?;
     Ok(RuleLine {
@@ -187,7 +181,7 @@ pub fn read_shares(line: u32, share: Share, words: Words<'_>) -> Result<RuleLine
 
 /// LINGER or TIMEOUT with these seconds.
 fn span_rule(span: Span, seconds: u64) -> Rule
-    requires { seconds < 2 ^ 40 }
+    requires { seconds < MOMENT_END }
     ensures rule { result ≡ span_rule span seconds }
     ensures fit { is_within_limits result ≡ true }
 {
@@ -208,7 +202,7 @@ pub fn read_times(line: u32, span: Span, words: Words<'_>) -> Result<RuleLine, O
     let feature = words.next().ok_or(missing)?;
     let seconds = words.next().ok_or(missing)?;
     let feature = read_feature(line, feature)?;
-    let seconds = read_number(line, seconds, SECONDS_LIMIT)?;
+    let seconds = read_number(line, seconds, MOMENT_END)?;
     Ok(RuleLine {
         line,
         feature: Some(feature),
@@ -225,7 +219,7 @@ pub fn read_times_all(line: u32, words: Words<'_>) -> Result<RuleLine, OptionsFa
 {
     let mut words = words;
     let seconds = words.next().ok_or(OptionsFault::MissingWord(line))?;
-    let seconds = read_number(line, seconds, SECONDS_LIMIT)?;
+    let seconds = read_number(line, seconds, MOMENT_END)?;
     Ok(RuleLine {
         line,
         feature: None,

@@ -18,10 +18,10 @@ use lic_types::{Note, NoteKind};
 use std::alloc::Global;
 
 /// The most lines with words that an options file may have.
-const LINES_LIMIT: usize = 4096;
+const LINE_LIMIT: usize = 4096;
 
 /// The most members that the group lines of an options file may list together.
-const MEMBERS_LIMIT: usize = 65_536;
+const MEMBER_LIMIT: usize = 65_536;
 
 impl Entry {
     /// The line that says it.
@@ -101,7 +101,7 @@ fn read_line(
     match line {
         Err(fault) => Err(OptionsFault::Line(fault)),
         Ok(line) => {
-            if before >= LINES_LIMIT {
+            if before >= LINE_LIMIT {
                 Err(OptionsFault::TooMany(line.first()))
             } else {
                 read_entry(alloc, line.first(), line.words())
@@ -117,13 +117,13 @@ fn read_next(
     members: usize,
     line: Result<Line<'_>, TextFault>,
 ) -> Result<Entry, OptionsFault>
-    requires { members ≤ 65536 }
+    requires { members ≤ MEMBER_LIMIT }
     ensures entry { IsAnswer (λ entry. entry) result (entry_next before members (shown line.entry)) }
     ensures fit { IfOk result (λ entry. is_fit entry ≡ true) }
-    ensures few { IfOk result (λ entry. members + members_in entry ≤ 65536) }
+    ensures few { IfOk result (λ entry. members + members_in entry ≤ MEMBER_LIMIT) }
 {
     let entry = read_line(alloc, before, line)?;
-    if entry.members() > MEMBERS_LIMIT - members {
+    if entry.members() > MEMBER_LIMIT - members {
         return Err(OptionsFault::TooMany(entry.line()));
     }
     Ok(entry)

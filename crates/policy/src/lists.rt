@@ -1,5 +1,5 @@
 //! The lists of the plain book, what the rules say by them, and settling.
-ghost use Rattle.std.specs.Prelude.{◌≡◌, ℕ, ◌+◌, ◌<◌, ◌≤◌, ◌^◌, count_by, not, filter, find, length, nat_lt, vec_capacity};
+ghost use Rattle.std.specs.Prelude.{◌≡◌, ℕ, ◌+◌, ◌<◌, ◌≤◌, count_by, not, filter, find, length, nat_lt, vec_capacity};
 ghost use Rattle.std.specs.List.{position, position_or_len};
 ghost use Rattle.std.specs.Option.{option_map};
 ghost use Rattle.options_machine.specs.Rules.{applies};
@@ -9,14 +9,8 @@ ghost use Rattle.options_machine.specs.Decide.{decide, has_room, is_left_by, is_
 ghost use Rattle.options_machine.specs.Settle.{in_time, serve, settle, timely, with_holder, with_offer, with_seat, with_seat_again, without_first};
 
 use crate::rules::DeskRules;
-use lic_types::{Client, RuleLine};
+use lic_types::{Client, MOMENT_END, RuleLine};
 use options_machine::{Charge, Decision, Holder, Limit, Lingerer, Queuer};
-
-/// At most so many entries linger.
-pub(crate) const MOST_LINGERING: usize = 4096;
-
-/// Moments are below this.
-const MOMENTS: u64 = 1 << 40;
 
 /// The lists of a book.
 #[derive(Drop)]
@@ -193,7 +187,7 @@ fn let_go(rules: &DeskRules, lists: &mut Lists, moment: u64)
     ensures state { state_of lists.new ≡ timely rules.now (state_of lists.old) moment }
     ensures room { HasSameRoom lists.old lists.new }
 {
-    let now = lists.moment.max(moment.min(MOMENTS - 1));
+    let now = lists.moment.max(moment.min(MOMENT_END - 1));
     lists.moment = now;
     drop_silent(&mut lists.holders, rules.timeout(), now);
     drop_lingering(&mut lists.lingering, now);

@@ -1,13 +1,15 @@
 //! What a party has in the lists, and how that changes.
 ghost use Rattle.std.specs.Prelude.{◌≡◌, ◌+◌, ◌<◌, ◌^◌, not, filter, find, length, map, vec_capacity};
 ghost use Rattle.std.specs.List.{position};
+ghost use Rattle.lic_types.specs.declared.limits.TheConstants.{MOMENT_END};
 ghost use Rattle.policy.specs.Kept.{HasSameRoom, state_of};
 ghost use Rattle.options_machine.specs.State.{is_holder, is_queuer, place};
 ghost use Rattle.options_machine.specs.Apply.{told_if, with_lingerer, with_told};
 ghost use Rattle.options_machine.specs.Step.{entry_left, position_of};
 
-use crate::lists::{Lists, MOST_LINGERING};
+use crate::lists::Lists;
 use crate::rules::DeskRules;
+use lic_types::LINGER_LIMIT;
 use options_machine::{Holder, Lingerer, Place, Queuer};
 
 /// The party's entry among the holders.
@@ -108,12 +110,12 @@ pub(crate) fn position_of(lists: &Lists, party: u32) -> u32
 
 /// The entry as which a holder's seat lingers, where it does.
 pub(crate) fn entry_left(rules: &DeskRules, lists: &Lists, holder: &Holder) -> Option<Lingerer>
-    requires moment { lists.now.moment < 2 ^ 40 }
-    requires short { rules.now.linger < 2 ^ 40 }
+    requires moment { lists.now.moment < MOMENT_END }
+    requires short { rules.now.linger < MOMENT_END }
     ensures { result ≡ entry_left rules.now (state_of lists.now) holder.now }
 {
     let linger = rules.linger();
-    if linger > 0 && lists.lingering.len() < MOST_LINGERING {
+    if linger > 0 && lists.lingering.len() < LINGER_LIMIT as usize {
         Some(Lingerer {
             client: holder.client,
             charge: holder.charge,

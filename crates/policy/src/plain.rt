@@ -1,6 +1,7 @@
 //! The options machine kept as lists.
 ghost use Rattle.counter.specs.Glances.{numbers_of};
-ghost use Rattle.std.specs.Prelude.{◌≡◌, ℕ, ◌+◌, ◌<◌, ◌≤◌, ◌^◌, ◌∷◌, [], ◌↔◌, IfOk, IsTrue, length};
+ghost use Rattle.std.specs.Prelude.{◌≡◌, ℕ, ◌+◌, ◌<◌, ◌≤◌, ◌∷◌, [], ◌↔◌, IfOk, IsTrue, length};
+ghost use Rattle.lic_types.specs.declared.limits.TheConstants.{MOMENT_END, PARTY_LIMIT};
 ghost use Rattle.policy.specs.Books.{Book, rules_now};
 ghost use Rattle.options_machine.specs.Law.{AreSets, IsLawful};
 ghost use Rattle.options_machine.specs.Run.{AsksForSet, IsBelow};
@@ -9,12 +10,12 @@ ghost use Rattle.options_machine.specs.Step.{set_asked, step};
 
 use crate::anew::charge_anew;
 use crate::answers;
-use crate::lists::{Lists, MOST_LINGERING, charges, decide, seat, seat_again, settle};
+use crate::lists::{Lists, charges, decide, seat, seat_again, settle};
 use crate::members::{drop_holder, drop_queuer, entry_left, linger, place, position_of, tell};
 use crate::rows::Rows;
 use crate::rules::DeskRules;
 use counter::Glance;
-use lic_types::{Client, NoMemory};
+use lic_types::{Client, LINGER_LIMIT, NoMemory};
 use options_machine::{Charge, Decision, Holder, Kind, Lingerer, Place, Queuer, Reply, Request};
 use std::alloc::Global;
 use std::marker::Model;
@@ -29,7 +30,7 @@ pub struct PlainBook {
 }
 
 impl Model for PlainBook {
-    ghost use Rattle.policy.specs.Books.{Book};
+ghost use Rattle.policy.specs.Books.{Book};
     ghost use Rattle.policy.specs.Kept.{IsBookKept, state_of};
 
     ghost Value = { Book };
@@ -44,11 +45,11 @@ impl PlainBook {
     /// 0 holds until a request asks for another. The room for all that parties may ask for later is taken here.
     pub fn make_many(alloc: Global, sets: Vec<DeskRules>, n: u32) -> Result<PlainBook, NoMemory>
         requires sets { AreSets sets.items (in_force sets.items opening).count }
-        requires parties { n ≤ 256 }
+        requires parties { n ≤ PARTY_LIMIT }
         ensures { IfOk result (λ book. book ≡ record { sets = sets.items; parties = n; state = opening }) }
     {
         let holders = Vec::with_capacity(alloc, n as usize)?;
-        let lingering = Vec::with_capacity(alloc, MOST_LINGERING)?;
+        let lingering = Vec::with_capacity(alloc, LINGER_LIMIT as usize)?;
         let queue = Vec::with_capacity(alloc, n as usize)?;
         Ok(PlainBook {
             sets,
@@ -65,7 +66,7 @@ impl PlainBook {
 
     /// A book in the opening state, with one rule set, for the parties below `n`.
     pub fn make(alloc: Global, rules: DeskRules, n: u32) -> Result<PlainBook, NoMemory>
-        requires parties { n ≤ 256 }
+        requires parties { n ≤ PARTY_LIMIT }
         ensures book { IfOk result (λ book. book ≡ record { sets = rules ∷ []; parties = n; state = opening }) }
         ensures sets { IfOk result (λ book. AreSets book.sets rules.count) }
     {
@@ -106,7 +107,7 @@ impl PlainBook {
         ensures step { (result.0, self.new.state) ≡ step self.old.sets self.old.state request.now moment }
         ensures moment { result.1 ≡ self.new.state.now }
         ensures same { (self.new.sets ≡ self.old.sets) × (self.new.parties ≡ self.old.parties) }
-        ensures within { result.1 < 2 ^ 40 }
+        ensures within { result.1 < MOMENT_END }
         ensures lawful { IsLawful self.new.sets (set_at self.new.sets 0).count self.new.state }
     {
         let said = answers::step(self, request, moment);

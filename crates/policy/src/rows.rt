@@ -1,5 +1,6 @@
 //! What a book must be able to tell and to change.
 ghost use Rattle.std.specs.Prelude.{◌≡◌, true, ◌+◌, ◌<◌, ◌≤◌, length};
+ghost use Rattle.lic_types.specs.declared.limits.TheConstants.{PARTY_LIMIT};
 ghost use Rattle.policy.specs.Books.{Book, rules_now};
 ghost use Rattle.options_machine.specs.declared.effect.Effect.TheVariants.{Join, Linger, Reseat, Seat};
 ghost use Rattle.options_machine.specs.declared.reply.Charge.TheVariants.{Open};
@@ -50,7 +51,7 @@ pub trait Rows {
     /// How many parties wait, which are 256 at most.
     fn queued(&self) -> u32
         ensures count { result ≡ length (seen self.now).state.queue }
-        ensures few { result ≤ 256 };
+        ensures few { result ≤ PARTY_LIMIT };
 
     /// How many seats, held or lingering, are charged to Open.
     fn taken(&self) -> u32

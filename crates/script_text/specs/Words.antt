@@ -3,6 +3,7 @@ use Rattle.std.specs.Cmp.Lexicographic.{pointwise}
 use Rattle.lic_types.specs.Name.{name_of}
 use Rattle.lic_types.specs.Version.{key_of}
 use Rattle.lic_types.specs.declared.version.Version.{Version}
+use Rattle.lic_types.specs.declared.limits.TheConstants.{MOMENT_END, PARTY_LIMIT}
 use Rattle.lic_text.specs.Number.{number_of}
 use Rattle.options_machine.specs.declared.reply.Kind.{Kind}
 use Rattle.options_machine.specs.declared.reply.Kind.TheVariants.{Checkout, Checkin, Beat, Look, Quit, Count, Queue, Reread}
@@ -61,8 +62,8 @@ asked_of Anew word others = reread_asked word others
 -- `moment party user host display project REREAD number`
 abbrev pub line_of_words : ℕ → List (List ℕ) → Result ScriptLine ScriptWord
 line_of_words line (moment ∷ party ∷ user ∷ host ∷ display ∷ project ∷ verb ∷ word ∷ others) =
-    and_then (below (2 ^ 40) (number_of moment)) (λ at.
-    and_then (below 256 (number_of party)) (λ asker.
+    and_then (below MOMENT_END (number_of moment)) (λ at.
+    and_then (below PARTY_LIMIT (number_of party)) (λ asker.
     and_then (client_of user host display project) (λ client.
     and_then (verb_of verb) (λ verb.
     and_then (asked_of verb word others) (λ asked.

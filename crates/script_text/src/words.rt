@@ -1,4 +1,4 @@
-ghost use Rattle.std.specs.Prelude.{◌≡◌, ◌<◌, ◌^◌, [], ◌∷◌, IfOk, MatchResult, true};
+ghost use Rattle.std.specs.Prelude.{◌≡◌, ◌<◌, [], ◌∷◌, IfOk, MatchResult, true};
 ghost use Rattle.lic_text.specs.Left.{words_left};
 ghost use Rattle.lic_types.specs.Version.{key_of};
 ghost use Rattle.script_text.specs.Fits.{has_its_words, is_fit, is_kind_of_verb, is_of_other, is_of_seat};
@@ -6,18 +6,12 @@ ghost use Rattle.script_text.specs.Words.{asked_of, line_of_words, other_asked, 
 
 use crate::line::ScriptLine;
 use lic_text::Words;
-use lic_types::{Name, Version};
+use lic_types::{MOMENT_END, Name, PARTY_LIMIT, Version};
 use options_machine::Kind;
 use script_words::{ScriptWord, next_word, read_below, read_client, read_name};
 
-/// Moments are below this, in seconds since 1970-01-01 UTC.
-const MOMENT_LIMIT: u64 = 1 << 40;
-
-/// Parties are below this.
-const PARTY_LIMIT: u64 = 256;
-
 /// The numbers of rule sets are below this.
-const SET_LIMIT: u64 = 1 << 32;
+const SET_END: u64 = 1 << 32;
 
 /// The version that a word spells.
 fn read_version(word: &[u8]) -> Result<Version, ScriptWord>
@@ -118,7 +112,7 @@ fn read_reread(number: &[u8], words: Words<'_>) -> Result<Asked, ScriptWord>
     if words.next().is_some() {
         return Err(ScriptWord::WordCount);
     }
-    let number = read_below(number, SET_LIMIT)?;
+    let number = read_below(number, SET_END)?;
     Ok(Asked {
         kind: Kind::Reread(number as u32),
         feature: None,
@@ -153,8 +147,8 @@ pub(crate) fn read_words(line: u32, words: Words<'_>) -> Result<ScriptLine, Scri
     let project = next_word(&mut words)?;
     let verb = next_word(&mut words)?;
     let word = next_word(&mut words)?;
-    let moment = read_below(moment, MOMENT_LIMIT)?;
-    let party = read_below(party, PARTY_LIMIT)?;
+    let moment = read_below(moment, MOMENT_END)?;
+    let party = read_below(party, PARTY_LIMIT as u64)?;
     let client = read_client(user, host, display, project)?;
     let verb = read_verb(verb)?;
     let asked = read_asked(verb, word, words)?;

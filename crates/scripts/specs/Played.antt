@@ -1,6 +1,7 @@
 -- Where a script stands while it is played.
-use Rattle.std.specs.Prelude.{◌≡◌, ℕ, ◌≤◌, ◌<◌, ◌^◌, false, ◌||◌, List, length, get_or, map, Option}
+use Rattle.std.specs.Prelude.{◌≡◌, ℕ, ◌≤◌, ◌<◌, false, ◌||◌, List, length, get_or, map, Option}
 use Rattle.std.specs.List.{AllZip}
+use Rattle.lic_types.specs.declared.limits.TheConstants.{MOMENT_END, PARTY_LIMIT}
 use Rattle.feature_lines.specs.declared.pool.Pool.{Pool}
 use Rattle.options_machine.specs.Own.{holds, queues}
 use Rattle.options_machine.specs.Run.{after}
@@ -16,13 +17,13 @@ pub record IsRunOf (sets lines : ℕ) (run : PoolRun) (ledger : Ledger) : Type 0
   pub pool : run.pool ≡ ledger.pool
   pub rules : run.book.sets ≡ ledger.sets
   pub many : length ledger.sets ≡ sets
-  pub parties : run.book.parties ≡ 256
+  pub parties : run.book.parties ≡ PARTY_LIMIT
   pub reached : run.book.state ≡ after ledger.sets ledger.run
-  pub small : (after ledger.sets ledger.run).now < 2 ^ 40
+  pub small : (after ledger.sets ledger.run).now < MOMENT_END
   pub counted : run.entries ≡ length ledger.run
   pub few : length ledger.run ≤ lines
-  pub room : length run.places ≡ 256
-  pub kept : (party : ℕ) → party < 256 → get_or run.places party false ≡ (holds ledger.run party || queues ledger.run party)
+  pub room : length run.places ≡ PARTY_LIMIT
+  pub kept : (party : ℕ) → party < PARTY_LIMIT → get_or run.places party false ≡ (holds ledger.run party || queues ledger.run party)
 
 -- each run stands where its ledger says
 abbrev pub AreRunsOf : ℕ → ℕ → List PoolRun → List Ledger → Type 0

@@ -1,5 +1,6 @@
 -- The pools while a script is played.
 use Rattle.std.specs.Prelude.{ℕ, ◌+◌, ◌-◌, ◌%◌, ◌^◌, Bool, false, ◌&&◌, ◌||◌, ◌==◌, nat_lt, if◌then◌else◌, List, length, map, replicate, Option, None, Some, slice_get, slice_set, unwrap_or}
+use Rattle.lic_types.specs.declared.limits.TheConstants.{PARTY_LIMIT}
 use Rattle.feature_lines.specs.declared.pool.Pool.{Pool}
 use Rattle.options_machine.specs.Own.{brings_seat, is_of_holding, is_of_queueing}
 use Rattle.options_machine.specs.State.{State, opening}
@@ -17,9 +18,9 @@ use Rattle.scripts.specs.declared.pool_run.PoolRun.{PoolRun}
 abbrev pub run_of : List OptionsFile → Pool → PoolRun
 run_of files pool = record {
   pool = pool;
-  book = record { sets = map (rules_of pool) files; parties = 256; state = opening; grants = 0 };
+  book = record { sets = map (rules_of pool) files; parties = PARTY_LIMIT; state = opening; grants = 0 };
   entries = 0;
-  places = replicate 256 false;
+  places = replicate PARTY_LIMIT false;
 }
 
 -- whether a reply says that its party holds a seat, or waits for one
@@ -67,4 +68,4 @@ pools_of runs = map (λ (run : PoolRun). run.pool) runs
 
 -- whether a run can take one entry more, where there are so many rule sets
 abbrev pub is_ready : ℕ → PoolRun → Bool
-is_ready sets run = run.book.parties == 256 && (length run.book.sets == sets && nat_lt run.entries (2 ^ 64 - 1))
+is_ready sets run = run.book.parties == PARTY_LIMIT && (length run.book.sets == sets && nat_lt run.entries (2 ^ 64 - 1))

@@ -6,7 +6,7 @@ ghost use Rattle.scripts.specs.PoolRuns.{run_of};
 
 use crate::pool_run::{PARTIES, PoolRun};
 use feature_lines::Pool;
-use lic_types::NoMemory;
+use lic_types::{NoMemory, PARTY_LIMIT};
 use options_text::Options;
 use policy::DeskRules;
 use seat_book::Book;
@@ -30,12 +30,12 @@ fn make_run(alloc: Global, pool: &Pool, options: &[Options]) -> Result<PoolRun, 
     ensures { IfOk result (λ run. run ≡ run_of options.now pool.now) }
 {
     let sets = sets_of(alloc, pool, options)?;
-    let book = Book::make_many(alloc, sets, PARTIES)?;
+    let book = Book::make_many(alloc, sets, PARTY_LIMIT)?;
     Ok(PoolRun {
         pool: *pool,
         book,
         entries: 0,
-        places: [false; 256],
+        places: [false; PARTIES],
     })
 }
 

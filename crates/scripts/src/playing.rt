@@ -1,5 +1,6 @@
 ghost use Rattle.std.specs.Prelude.{◌≡◌, ◌≢◌, ◌≤◌, ◌<◌, Err, None, OnOk, Some, length, map, true};
 ghost use Rattle.std.specs.List.{list_all};
+ghost use Rattle.lic_types.specs.declared.limits.TheConstants.{PARTY_LIMIT};
 ghost use Rattle.options_machine.specs.Run.{IsBelow};
 ghost use Rattle.options_machine.specs.Step.{set_asked};
 ghost use Rattle.outside.specs.Told.{HasRisen, TakesFront, Wrote, told_with};
@@ -23,7 +24,7 @@ use std::alloc::Global;
 
 /// Makes the entry of a line at each pool, in their order.
 fn enter_each(sets: usize, runs: &mut [PoolRun], line: &ScriptLine)
-    requires party { line.now.party < 256 }
+    requires party { line.now.party < PARTY_LIMIT }
     requires fits { IsBelow (set_asked line.now.kind) sets }
     requires ready { list_all (is_ready sets) runs.old ≡ true }
     ensures { runs.new ≡ map (entered_at line.now) runs.old }
@@ -35,7 +36,7 @@ fn enter_each(sets: usize, runs: &mut [PoolRun], line: &ScriptLine)
 
 /// Answers a line that asks for the rule set of this number, and makes its entries where there is one.
 fn answer_reread(sets: usize, runs: &mut [PoolRun], line: &ScriptLine, set: u32) -> Answer
-    requires party { line.now.party < 256 }
+    requires party { line.now.party < PARTY_LIMIT }
     requires asked { set_asked line.now.kind ≡ Some set }
     requires ready { list_all (is_ready sets) runs.old ≡ true }
     ensures runs { runs.new ≡ after_asked run_walk sets runs.old line.now (Some set) }
@@ -52,7 +53,7 @@ fn answer_reread(sets: usize, runs: &mut [PoolRun], line: &ScriptLine, set: u32)
 /// Makes the entry of a line at the pool of this place, and gives its answer.
 fn answer_at(sets: usize, runs: &mut [PoolRun], line: &ScriptLine, at: usize) -> Answer
     requires there { at < length runs.old }
-    requires party { line.now.party < 256 }
+    requires party { line.now.party < PARTY_LIMIT }
     requires asked { set_asked line.now.kind ≡ None }
     requires ready { list_all (is_ready sets) runs.old ≡ true }
     ensures runs { runs.new ≡ after_sent run_walk runs.old line.now (Found.Pool at) }
@@ -66,7 +67,7 @@ fn answer_at(sets: usize, runs: &mut [PoolRun], line: &ScriptLine, at: usize) ->
 /// Answers a line that asks for no rule set: it goes to a pool and makes its entry there, or goes nowhere.
 fn answer_request(licence: &Licence, sets: usize, runs: &mut [PoolRun], line: &ScriptLine) -> Answer
     requires pools { pools_of runs.old ≡ licence.now.pools }
-    requires party { line.now.party < 256 }
+    requires party { line.now.party < PARTY_LIMIT }
     requires asked { set_asked line.now.kind ≡ None }
     requires ready { list_all (is_ready sets) runs.old ≡ true }
     ensures runs { runs.new ≡ after_asked run_walk sets runs.old line.now None }
@@ -87,7 +88,7 @@ pub(crate) fn answer_line(
     line: &ScriptLine,
 ) -> Answer
     requires pools { pools_of runs.old ≡ licence.now.pools }
-    requires party { line.now.party < 256 }
+    requires party { line.now.party < PARTY_LIMIT }
     requires ready { list_all (is_ready sets) runs.old ≡ true }
     ensures runs { runs.new ≡ after_line run_walk sets runs.old line.now }
     ensures answer { result ≡ line_answer run_walk sets runs.old line.now }

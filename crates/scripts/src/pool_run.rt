@@ -5,13 +5,13 @@ ghost use Rattle.scripts.specs.Script.{request_of};
 ghost use Rattle.scripts.specs.Walk.{is_kept};
 
 use feature_lines::Pool;
-use lic_types::Name;
+use lic_types::{Name, PARTY_LIMIT};
 use options_machine::{Reply, Request};
 use script_text::ScriptLine;
 use seat_book::Book;
 
 /// How many parties a script may speak of.
-pub(crate) const PARTIES: u32 = 256;
+pub(crate) const PARTIES: usize = PARTY_LIMIT as usize;
 
 /// A pool while a script is played: its book, and what the lines so far left there.
 #[derive(Drop)]
@@ -21,7 +21,7 @@ pub(crate) struct PoolRun {
     /// How many entries were made there.
     pub(crate) entries: u64,
     /// Which parties keep a place there: those whose standing reply is of holding or of queueing.
-    pub(crate) places: [bool; 256],
+    pub(crate) places: [bool; PARTIES],
 }
 
 /// Whether a reply says that its party holds a seat, or waits for one.
@@ -32,8 +32,8 @@ fn keeps_place(reply: &Reply) -> bool
 }
 
 /// Notes whether the party of a line keeps a place after a reply. A line that asks for a rule set moves no party's place.
-fn note_place(places: &mut [bool; 256], line: &ScriptLine, reply: &Reply)
-    requires party { line.now.party < 256 }
+fn note_place(places: &mut [bool; PARTIES], line: &ScriptLine, reply: &Reply)
+    requires party { line.now.party < PARTY_LIMIT }
     ensures { places.new ≡ places_with places.old line.now reply.now }
 {
     if line.kind.set_asked().is_none() {
@@ -51,8 +51,8 @@ impl PoolRun {
 
     /// Makes the entry of a line, and gives its reply.
     pub(crate) fn enter(&mut self, line: &ScriptLine) -> Reply
-        requires party { line.now.party < 256 }
-        requires parties { self.old.book.parties ≡ 256 }
+        requires party { line.now.party < PARTY_LIMIT }
+        requires parties { self.old.book.parties ≡ PARTY_LIMIT }
         requires fits { AsksForSet self.old.book.sets (request_of line.now) }
         requires few { self.old.entries < 2 ^ 64 - 1 }
         ensures entered { self.new ≡ entered_at line.now self.old }

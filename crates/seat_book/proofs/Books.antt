@@ -11,7 +11,7 @@ use Rattle.options_machine.specs.Rules.{IsSound, Rules}
 use Rattle.options_machine.specs.State.{State, in_use, is_holder, set_at}
 use Rattle.options_machine.specs.Law.{IsServed}
 use Rattle.options_machine.specs.Settle.{settle, with_seat_again}
-use Rattle.options_machine.specs.Apply.{Fits, HasSeat, IsPlace, apply, most_lingering, with_lingerer, with_told}
+use Rattle.options_machine.specs.Apply.{Fits, HasSeat, IsPlace, apply, with_lingerer, with_told}
 use Rattle.options_machine.specs.Step.{with_charges_anew}
 use Rattle.options_machine.specs.Kept.{IsBounded, IsKept}
 use Rattle.options_machine.proofs.Keeps.{kept_settle, retakes}

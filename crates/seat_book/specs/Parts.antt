@@ -1,9 +1,9 @@
 -- What a book keeps.
 use Rattle.std.specs.Prelude.{◌≡◌, ℕ, ◌≤◌, ◌<◌, true, min, List, length, vec_capacity}
+use Rattle.lic_types.specs.declared.limits.TheConstants.{LINGER_LIMIT, PARTY_LIMIT}
 use Rattle.options_machine.specs.Rules.{IsSound, Rules}
 use Rattle.options_machine.specs.State.{State, set_at}
 use Rattle.options_machine.specs.Law.{AreSets, IsServed}
-use Rattle.options_machine.specs.Apply.{most_lingering}
 use Rattle.options_machine.specs.Kept.{IsBounded, IsKept}
 use Rattle.seat_counters.specs.Counts.{HasRoomFor, counts_of}
 use Rattle.seat_book.specs.Beats.{heard_after}
@@ -27,7 +27,7 @@ pub record HasSameRoom (old new : Parts) : Type 0 where
 
 -- room for all parties, for all that may linger, and for the lines of each rule set
 pub record HasRoom (sets : List Rules) (p : Parts) : Type 0 where
-  pub table : p.table.room ≡ min most_lingering (set_at sets 0).count
+  pub table : p.table.room ≡ min LINGER_LIMIT (set_at sets 0).count
   pub queue : p.seats.parties ≤ vec_capacity p.queue
   pub lines : (k : ℕ) → k < length sets → HasRoomFor (set_at sets k) p.counters
 
@@ -42,7 +42,7 @@ pub record IsServable (r : Rules) (p : Parts) : Type 0 where
 pub record IsBookKept (sets : List Rules) (p : Parts) : Type 0 where
   pub rules : AreSets sets (set_at sets 0).count
   pub set : p.set < length sets
-  pub parties : p.seats.parties ≤ 256
+  pub parties : p.seats.parties ≤ PARTY_LIMIT
   pub kept : IsKept (set_at sets p.set) (state_of p)
   pub bounded : IsBounded p.seats.parties (state_of p)
   pub unheard : heard_after p.moment p.seats.holders ≡ 0

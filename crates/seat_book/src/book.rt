@@ -1,5 +1,6 @@
 //! The book by rows.
 ghost use Rattle.std.specs.Prelude.{◌≡◌, ℕ, ◌+◌, ◌%◌, ◌<◌, ◌≤◌, ◌^◌, ◌∷◌, [], ◌↔◌, IfOk, IsTrue, find, if◌then◌else◌, length, slice_get};
+ghost use Rattle.lic_types.specs.declared.limits.TheConstants.{MOMENT_END, PARTY_LIMIT};
 ghost use Rattle.counter.specs.Glances.{numbers_of};
 ghost use Rattle.policy.specs.Books.{rules_now};
 ghost use Rattle.options_machine.specs.Law.{AreSets, IsLawful};
@@ -12,11 +13,11 @@ ghost use Rattle.seat_book.specs.Books.{BookWithGrants, rows_of};
 use crate::charging::charge_anew;
 use crate::deciding::decide;
 use crate::members::{
-    MOST_LINGERING, drop_queuer, entry_left, linger, place, position_of, release, seat, seat_again,
+    drop_queuer, entry_left, linger, place, position_of, release, seat, seat_again,
 };
 use crate::parts::Parts;
 use crate::serving::settle;
-use lic_types::{Client, NoMemory};
+use lic_types::{Client, LINGER_LIMIT, NoMemory};
 use linger_table::LingerTable;
 use options_machine::{Charge, Decision, Holder, Kind, Lingerer, Place, Queuer, Reply, Request};
 use policy::{DeskRules, Glance, Rows};
@@ -61,13 +62,13 @@ impl Book {
     /// error is want of memory.
     pub fn make_many(alloc: Global, sets: Vec<DeskRules>, n: u32) -> Result<Book, NoMemory>
         requires sets { AreSets sets.items (in_force sets.items opening).count }
-        requires parties { n ≤ 256 }
+        requires parties { n ≤ PARTY_LIMIT }
         ensures { IfOk result (λ book. book ≡ record { sets = sets.items; parties = n; state = opening; grants = 0 }) }
     {
         let first = &sets[0];
         let mut counters = Counters::make(alloc, sets.as_slice())?;
         counters.clear(first);
-        let table = LingerTable::make(alloc, MOST_LINGERING.min(first.count()))?;
+        let table = LingerTable::make(alloc, LINGER_LIMIT.min(first.count()))?;
         let seats = SeatRows::make(alloc, n)?;
         let queue = Vec::with_capacity(alloc, n as usize)?;
         Ok(Book {
@@ -87,7 +88,7 @@ impl Book {
 
     /// A book in the opening state, with one rule set, for the parties below `n`. The one error is want of memory.
     pub fn make(alloc: Global, rules: DeskRules, n: u32) -> Result<Book, NoMemory>
-        requires parties { n ≤ 256 }
+        requires parties { n ≤ PARTY_LIMIT }
         ensures book { IfOk result (λ book. book ≡ record { sets = rules ∷ []; parties = n; state = opening; grants = 0 }) }
         ensures sets { IfOk result (λ book. AreSets book.sets rules.count) }
     {
@@ -130,7 +131,7 @@ impl Book {
         ensures moment { result.1 ≡ self.new.state.now }
         ensures same { (self.new.sets ≡ self.old.sets) × (self.new.parties ≡ self.old.parties) }
         ensures grants { self.new.grants ≡ (self.old.grants + (if brings_seat result.0 then 1 else 0)) % 2 ^ 64 }
-        ensures within { result.1 < 2 ^ 40 }
+        ensures within { result.1 < MOMENT_END }
         ensures lawful { IsLawful self.new.sets (set_at self.new.sets 0).count self.new.state }
     {
         let grants = self.grants;
@@ -185,7 +186,7 @@ impl Book {
     /// How many parties wait, which are 256 at most.
     pub fn queued(&self) -> u32
         ensures count { result ≡ length self.now.state.queue }
-        ensures few { result ≤ 256 }
+        ensures few { result ≤ PARTY_LIMIT }
     {
         self.parts.queue.len() as u32
     }

@@ -1,5 +1,6 @@
 //! All charges given anew.
 ghost use Rattle.std.specs.Prelude.{◌≡◌, ◌≤◌, ◌<◌, ◌^◌, [], length, map};
+ghost use Rattle.lic_types.specs.declared.limits.TheConstants.{PARTY_LIMIT};
 ghost use Rattle.options_machine.specs.State.{in_use};
 ghost use Rattle.options_machine.specs.Step.{holders_anew, lingering_anew, reserve_or_open, with_charges_anew};
 ghost use Rattle.seat_counters.specs.Counts.{AreOf, HasRoomFor, first_line, has_seat, no_counts};
@@ -26,7 +27,7 @@ fn next_charge(rules: &DeskRules, counters: &Counters, client: &Client) -> Charg
 /// Charges the holders anew, in order of party, and counts them.
 fn charge_holders(rules: &DeskRules, parts: &mut Parts)
     requires none { parts.old.counters.counts ≡ no_counts rules.now }
-    requires few { length parts.old.seats.holders ≤ 256 }
+    requires few { length parts.old.seats.holders ≤ PARTY_LIMIT }
     ensures state { state_of parts.new ≡ record (state_of parts.old) { holders = holders_anew rules.now [] parts.old.seats.holders } }
     ensures counted { parts.new.counters.counts ≡ counts_in rules.now parts.new.seats.holders [] }
     ensures room { HasSameRoom parts.old parts.new }
@@ -65,7 +66,7 @@ fn charge_lingering(rules: &DeskRules, parts: &mut Parts)
 /// Gives all charges anew, by rules for whose lines there is room, and counts anew by them.
 pub(crate) fn charge_anew(rules: &DeskRules, parts: &mut Parts)
     requires room { HasRoomFor rules.now parts.old.counters }
-    requires holders { length parts.old.seats.holders ≤ 256 }
+    requires holders { length parts.old.seats.holders ≤ PARTY_LIMIT }
     requires few { in_use (state_of parts.old) < 2 ^ 32 }
     ensures state { state_of parts.new ≡ with_charges_anew rules.now (state_of parts.old) }
     ensures counted { AreCounted rules.now parts.new }

@@ -1,5 +1,5 @@
 //! What is over at a moment.
-ghost use Rattle.std.specs.Prelude.{◌≡◌, ◌+◌, ◌<◌, ◌≤◌, ◌^◌, true, false, not, ◌&&◌, if◌then◌else◌, filter, length, nat_lt};
+ghost use Rattle.std.specs.Prelude.{◌≡◌, ◌+◌, ◌<◌, ◌≤◌, true, false, not, ◌&&◌, if◌then◌else◌, filter, length, nat_lt};
 ghost use Rattle.options_machine.specs.Settle.{in_time, moved, timely};
 ghost use Rattle.seat_rows.specs.Seats.{is_heard};
 ghost use Rattle.linger_table.specs.Table.{stays_at};
@@ -7,10 +7,8 @@ ghost use Rattle.seat_book.specs.Beats.{heard_after};
 ghost use Rattle.seat_book.specs.Parts.{AreCounted, HasSameRoom, state_of};
 
 use crate::parts::Parts;
+use lic_types::MOMENT_END;
 use policy::DeskRules;
-
-/// Moments are below this.
-const MOMENTS: u64 = 1 << 40;
 
 /// Takes the seat of a holder that wasn't heard after this moment, if there is one.
 fn let_silent_one_go(rules: &DeskRules, parts: &mut Parts, over: u64) -> bool
@@ -108,7 +106,7 @@ pub(crate) fn let_go(rules: &DeskRules, parts: &mut Parts, moment: u64)
     ensures counted { AreCounted rules.now parts.new }
     ensures room { HasSameRoom parts.old parts.new }
 {
-    parts.moment = parts.moment.max(moment.min(MOMENTS - 1));
+    parts.moment = parts.moment.max(moment.min(MOMENT_END - 1));
     drop_silent(rules, parts);
     drop_lapsed(rules, parts);
 }

@@ -3,17 +3,14 @@ ghost use Rattle.std.specs.Prelude.{◌≡◌, ◌+◌, ◌<◌, ◌^◌, false,
 ghost use Rattle.std.specs.List.{position};
 ghost use Rattle.options_machine.specs.State.{in_use, is_holder, is_queuer, place};
 ghost use Rattle.options_machine.specs.Settle.{with_seat, with_seat_again};
-ghost use Rattle.options_machine.specs.Apply.{HasSeat, most_lingering, with_lingerer, without_holder};
+ghost use Rattle.options_machine.specs.Apply.{HasSeat, with_lingerer, without_holder};
 ghost use Rattle.options_machine.specs.Step.{entry_left, position_of};
 ghost use Rattle.seat_book.specs.Parts.{AreCounted, HasSameRoom, state_of};
 
 use crate::parts::Parts;
-use lic_types::Client;
+use lic_types::{Client, LINGER_LIMIT, MOMENT_END};
 use options_machine::{Charge, Holder, Lingerer, Place, Queuer};
 use policy::DeskRules;
-
-/// At most so many entries linger.
-pub(crate) const MOST_LINGERING: u32 = 4096;
 
 /// The party's entry in the queue.
 fn find_queuer(queue: &[Queuer], party: u32) -> Option<Queuer>
@@ -71,12 +68,12 @@ pub(crate) fn drop_queuer(queue: &mut Vec<Queuer>, party: u32)
 
 /// The entry as which a holder's seat lingers, where it does.
 pub(crate) fn entry_left(rules: &DeskRules, parts: &Parts, holder: &Holder) -> Option<Lingerer>
-    requires moment { parts.now.moment < 2 ^ 40 }
-    requires short { rules.now.linger < 2 ^ 40 }
+    requires moment { parts.now.moment < MOMENT_END }
+    requires short { rules.now.linger < MOMENT_END }
     ensures { result ≡ entry_left rules.now (state_of parts.now) holder.now }
 {
     let linger = rules.linger();
-    if linger > 0 && parts.table.len() < MOST_LINGERING {
+    if linger > 0 && parts.table.len() < LINGER_LIMIT {
         Some(Lingerer {
             client: holder.client,
             charge: holder.charge,

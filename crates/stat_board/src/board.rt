@@ -1,5 +1,6 @@
 //! The board, as its writer has it.
 ghost use Rattle.std.specs.Prelude.{◌≡◌, ◌⊎◌, ◌++◌, ◌≤◌, false, true, [], ◌∷◌, drop, vec_len, vec_capacity, All, IfOk, IfSome};
+ghost use Rattle.lic_types.specs.declared.limits.TheConstants.{PARTY_LIMIT};
 ghost use Rattle.counter.specs.Glances.{glance_of};
 ghost use Rattle.left_right.specs.Sides.{view};
 ghost use Rattle.stat_board.specs.Fronts.{IsLater, longer};
@@ -51,7 +52,7 @@ impl Board {
         glance: Glance,
         n: u32,
     ) -> Result<(Board, Vec<BoardPass>), NoMemory>
-        requires count { (1 ≤ n) × (n ≤ 256) }
+        requires count { (1 ≤ n) × (n ≤ PARTY_LIMIT) }
         requires opening { glance ≡ glance_of (M.sets about.now) [] }
         ensures live { IfOk result (λ r. r.0.live ≡ true) }
         ensures sets { IfOk result (λ r. r.0.front.sets ≡ M.sets about.now) }

@@ -1,5 +1,6 @@
 //! A whole trial.
 ghost use Rattle.std.specs.Prelude.{◌≡◌, ◌<◌, ◌≤◌, ◌∷◌, ℕ, [], All, Err, IfOk, length, vec_capacity, vec_len};
+ghost use Rattle.lic_types.specs.declared.limits.TheConstants.{LICENCE_LIMIT, PARTY_LIMIT};
 ghost use Rattle.daemon_run.specs.Gives.{kept_from, no_sessions};
 ghost use Rattle.feature_desk.specs.Sitters.{DeskView};
 ghost use Rattle.licence_office.specs.Offices.{IsDeskFor};
@@ -70,8 +71,8 @@ pub fn try_out<R: Threads + Wait + Sync, T: Site>(
     rounds: u32,
     site: &mut T,
 ) -> Result<Trial, TrialFailed>
-    requires clients { (2 ≤ clients) × (clients ≤ 256) }
-    requires seats { (1 ≤ seats) × (seats ≤ 65535) }
+    requires clients { (2 ≤ clients) × (clients ≤ PARTY_LIMIT) }
+    requires seats { (1 ≤ seats) × (seats ≤ LICENCE_LIMIT) }
     requires rounds { (1 ≤ rounds) × (rounds ≤ 10000) }
     // Every post is given back.
     ensures posted { T.posted site.new ≡ T.posted site.old }

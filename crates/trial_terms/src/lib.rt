@@ -2,6 +2,7 @@
 #![tactic(auto)]
 
 ghost use Rattle.std.specs.Prelude.{◌≡◌, ◌≤◌, ◌∷◌, [], IfOk, string_bytes};
+ghost use Rattle.lic_types.specs.declared.limits.TheConstants.{LICENCE_LIMIT};
 ghost use Rattle.trial_terms.specs.Terms.{licence_text, no_options, trial_pool};
 
 use feature_lines::{Licence, LicenceFault, read_licence};
@@ -20,7 +21,7 @@ fn licence_text(alloc: Global, seats: u32) -> Result<String, AllocError>
 /// one pool, of the feature `trial`, the vendor `v`, the version 1.0 and these seats, which never expires. It fails where memory
 /// ran out. The trial is this project's own.
 pub fn trial_licence(alloc: Global, seats: u32) -> Result<Licence, NoMemory>
-    requires { (1 ≤ seats) × (seats ≤ 65535) }
+    requires { (1 ≤ seats) × (seats ≤ LICENCE_LIMIT) }
     ensures { IfOk result (λ licence. licence.pools ≡ trial_pool seats ∷ []) }
 {
     let text = licence_text(alloc, seats)?;

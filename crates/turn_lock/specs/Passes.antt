@@ -3,6 +3,7 @@ use Rattle.std.specs.Prelude.{◌≡◌, ◌≢◌, ℕ, ◌%◌, ◌^◌, ◌<�
 use Rattle.atomic_table.specs.Seated.{TableId}
 use Rattle.turn_lock.specs.declared.kept.Entry.{Entry}
 use Rattle.turn_lock.specs.Entries.{own, IsPrefix}
+use Rattle.turn_lock.specs.declared.table.TheConstants.{PASS_LIMIT}
 
 -- Which lock it is: what no other lock shares with it, and how many passes it has
 pub record LockId : Type 0 where
@@ -28,7 +29,7 @@ pub record IsSetUp (id : TableId) (told parties : ℕ) : Type 0 where
   pub slots : id.slots ≡ 1
   pub told_is : told ≡ parties
   pub some : 1 ≤ parties
-  pub few : parties ≤ 256
+  pub few : parties ≤ PASS_LIMIT
 
 -- a pass that was never used
 abbrev pub unused : {L Q A : Type 0} → Lock L → ℕ → Pass L Q A

@@ -15,6 +15,9 @@ pub(crate) const SERVING: usize = 2;
 /// The slot of the value.
 pub(crate) const VALUE: usize = 0;
 
+/// The most passes of a lock.
+pub(crate) const PASS_LIMIT: u32 = 256;
+
 /// What the rule is told when the table is made.
 #[derive(Drop)]
 pub(crate) struct Opening<V> {

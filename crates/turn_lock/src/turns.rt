@@ -1,6 +1,7 @@
 //! The lock and its passes.
 ghost use Rattle.std.specs.Prelude.{◌≡◌, ℕ, ◌%◌, ◌^◌, ◌<◌, ◌≤◌, List, [], ◌∷◌, ◌++◌, length, Some, IfOk, IfErr, EachIndex, vec_len, vec_capacity, All, slice_get};
 ghost use Rattle.turn_lock.specs.declared.kept.Entry.{Entry};
+ghost use Rattle.turn_lock.specs.declared.table.TheConstants.{PASS_LIMIT};
 ghost use Rattle.turn_lock.specs.declared.view.Stage.TheVariants.{Idle, Waiting, Turn, Out, Counted};
 ghost use Rattle.turn_lock.specs.Entries.{entry, own};
 ghost use Rattle.turn_lock.specs.Passes.{Pass, Closes, unused};
@@ -121,7 +122,7 @@ impl<V: Kept> Turns<V> {
         value: V,
         n: u32,
     ) -> Result<(Turns<V>, Vec<TurnPass<V>>), (NoMemory, V)>
-        requires count { (1 ≤ n) × (n ≤ 256) }
+        requires count { (1 ≤ n) × (n ≤ PASS_LIMIT) }
         requires opens { V.stands value [] × V.run (V.law value) [] }
         ensures lock { IfOk result (λ r. (r.0.id.parties ≡ n) × (r.0.law ≡ V.law value)) }
         ensures count { IfOk result (λ r. vec_len r.1 ≡ n) }

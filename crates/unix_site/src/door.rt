@@ -3,7 +3,7 @@ ghost use Rattle.std.specs.Prelude.{◌≡◌, ◌||◌, nat_lt, nat_le};
 ghost use Rattle.daemon_outside.specs.Doors.{most_fails};
 
 use crate::link::{UnixLink, is_quiet};
-use daemon_outside::{Came, Door, MOST_FAILS};
+use daemon_outside::{Came, Door, FAIL_LIMIT};
 use std::io::{self, ErrorKind};
 use std::os::unix::net::UnixListener;
 
@@ -53,7 +53,7 @@ impl UnixDoor {
     pub fn is_broken(&self) -> bool
         ensures { result ≡ nat_le most_fails self.now.fails }
     {
-        MOST_FAILS <= self.fails
+        FAIL_LIMIT <= self.fails
     }
 }
 

@@ -7,11 +7,11 @@ use Rattle.door_worker.proofs.worker.turn.Goals as goal
 pub returns-in-Quiet-clause-served : goal.returns-in-Quiet-clause-served
 returns-in-Quiet-clause-served g c = ([], tt, served_none g.C.Counter.account g.D.Door.talks g.K.Clock.gave g.B.Bell.tolls g.B.Bell.rings c.args.pass.now.items c.args.door.now c.accept.new.self c.args.clock.now c.args.bell.now c.rung.new.self c.accept.ensures.told c.rung.ensures.rings c.rung.ensures.tolls.never_falls)
 
-pub returns-then-fails-ge-MOST_FAILS-clause-served : goal.returns-then-fails-ge-MOST_FAILS-clause-served
-returns-then-fails-ge-MOST_FAILS-clause-served g c = ([], tt, served_none g.C.Counter.account g.D.Door.talks g.K.Clock.gave g.B.Bell.tolls g.B.Bell.rings c.args.pass.now.items c.args.door.now c.accept.new.self c.args.clock.now c.args.bell.now c.args.bell.now c.accept.ensures.told refl (omega arith))
+pub returns-then-fails-ge-FAIL_LIMIT-clause-served : goal.returns-then-fails-ge-FAIL_LIMIT-clause-served
+returns-then-fails-ge-FAIL_LIMIT-clause-served g c = ([], tt, served_none g.C.Counter.account g.D.Door.talks g.K.Clock.gave g.B.Bell.tolls g.B.Bell.rings c.args.pass.now.items c.args.door.now c.accept.new.self c.args.clock.now c.args.bell.now c.args.bell.now c.accept.ensures.told refl (omega arith))
 
-pub returns-else-fails-ge-MOST_FAILS-clause-served : goal.returns-else-fails-ge-MOST_FAILS-clause-served
-returns-else-fails-ge-MOST_FAILS-clause-served g c = ([], tt, served_none g.C.Counter.account g.D.Door.talks g.K.Clock.gave g.B.Bell.tolls g.B.Bell.rings c.args.pass.now.items c.args.door.now c.accept.new.self c.args.clock.now c.args.bell.now c.rung-in-Failed.new.self c.accept.ensures.told c.rung-in-Failed.ensures.rings c.rung-in-Failed.ensures.tolls.never_falls)
+pub returns-else-fails-ge-FAIL_LIMIT-clause-served : goal.returns-else-fails-ge-FAIL_LIMIT-clause-served
+returns-else-fails-ge-FAIL_LIMIT-clause-served g c = ([], tt, served_none g.C.Counter.account g.D.Door.talks g.K.Clock.gave g.B.Bell.tolls g.B.Bell.rings c.args.pass.now.items c.args.door.now c.accept.new.self c.args.clock.now c.args.bell.now c.rung-in-Failed.new.self c.accept.ensures.told c.rung-in-Failed.ensures.rings c.rung-in-Failed.ensures.tolls.never_falls)
 
 pub returns-in-Link-clause-served : goal.returns-in-Link-clause-served
 returns-in-Link-clause-served g c =

@@ -6,8 +6,8 @@ use Rattle.feature_lines.specs.declared.pool.Pool.{Pool}
 use Rattle.feature_lines.proofs.Places.{more_of, new_pool, no_room, too_many}
 use Rattle.feature_lines.proofs.draft.add.Goals as goal
 
-pub returns-then-len-ge-MOST_POOLS-clause-err : goal.returns-then-len-ge-MOST_POOLS-clause-err
-returns-then-len-ge-MOST_POOLS-clause-err c =
+pub returns-then-len-ge-POOL_LIMIT-clause-err : goal.returns-then-len-ge-POOL_LIMIT-clause-err
+returns-then-len-ge-POOL_LIMIT-clause-err c =
     let place : position_from (λ p. same_key (line_key c.args.feature.now) (pool_key p)) 0 c.args.pools.now.items ≡ None = ap (λ (ps : List Pool). position_from (λ p. same_key (line_key c.args.feature.now) (pool_key p)) 0 ps) (sym c.as_slice.ensures.value) ∙ (sym c.place_of.ensures.place ∙ c.in_default.is) in
     no_room c.args.feature.now c.args.pools.now.items place (omega arith)
 
