@@ -78,7 +78,7 @@ StepSays e old new (Err Silent) = ⊥
 StepSays e old new (Err Unasked) = ⊥
 StepSays e old new (Err Garbled) = (written_in e ≡ []) × IsGarbled (waiting old ++ heard_in e)
 
--- what was heard so far of a reply, with so many silences
+-- for proofs alone: what was heard so far of a reply, with so many silences
 pub record IsHearing {X : Type 0} (tells : X → List Event → Type 0) (old new : X) (held : Held) (quiets : ℕ) : Type 0 where
   pub events : List Event
   pub told : Follows tells old new events

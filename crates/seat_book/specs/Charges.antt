@@ -12,7 +12,7 @@ use Rattle.seat_counters.specs.Counts.{Counts, counts_of}
 abbrev pub counts_in : Rules → List Holder → List Lingerer → Counts
 counts_in r hs ls = counts_of r (record opening { holders = hs; lingering = ls })
 
--- the holders of parties below this one have their charges anew, and are counted; the others are as they were
+-- for proofs alone: the holders of parties below this one have their charges anew, and are counted; the others are as they were
 pub record AreAnewBelow (r : Rules) (party : ℕ) (old new : List Holder) (counts : Counts) : Type 0 where
   pub front : List Holder
   pub back : List Holder
@@ -22,7 +22,7 @@ pub record AreAnewBelow (r : Rules) (party : ℕ) (old new : List Holder) (count
   pub behind : list_all (λ (h : Holder). nat_le party h.party) back ≡ true
   pub counted : counts ≡ counts_in r (holders_anew r [] front) []
 
--- the first lingering entries, so many, have their charges anew after those of the holders, and are counted with them; the others are as they were
+-- for proofs alone: the first lingering entries, so many, have their charges anew after those of the holders, and are counted with them; the others are as they were
 pub record AreAnewUpTo (r : Rules) (at : ℕ) (hs : List Holder) (old new : List Lingerer) (counts : Counts) : Type 0 where
   pub length_stays : length new ≡ length old
   pub anew : take at new ++ lingering_anew r (map (λ (h : Holder). h.charge) hs ++ map (λ (l : Lingerer). l.charge) (take at new)) (drop at new) ≡ lingering_anew r (map (λ (h : Holder). h.charge) hs) old
