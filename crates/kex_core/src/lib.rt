@@ -26,6 +26,3 @@ pub use net::Net;
 pub use no_memory::NoMemory;
 pub use place::{Access, Place};
 pub use world::World;
-
-#[cfg(test)]
-mod tests;

@@ -1,4 +1,5 @@
 mod gates;
+mod machine;
 mod nets;
 mod seatings;
 mod seats;

@@ -47,6 +47,3 @@ pub fn advice_of(
     advise_pools(&mut advice, horizon, pools)?;
     Ok(advice)
 }
-
-#[cfg(test)]
-mod tests;

@@ -1,4 +1,4 @@
-ghost use Rattle.std.specs.Prelude.{◌≡◌, ◌<◌, ◌∷◌, IfOk, true};
+ghost use Rattle.std.specs.Prelude.{◌≡◌, ◌<◌, ◌≤◌, ◌∷◌, IfOk, true};
 ghost use Rattle.lic_text.specs.Left.{words_left};
 ghost use Rattle.options_text.specs.Answers.{IsAnswer};
 ghost use Rattle.options_text.specs.Entries.{is_within_limits};

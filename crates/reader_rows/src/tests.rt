@@ -1,3 +1,4 @@
+mod advice;
 mod licences;
 mod options_files;
 mod plain_types;

@@ -1,7 +1,8 @@
-use crate::{Access, Net, Place, World};
+//! A net by hand, and one party's way through its machine.
+use kex_core::{Access, Net, Place, World};
 use std::test::Fail;
 
-// two stages of capacity 1, with two parties each, lead to a third, and that to the one number
+/// Two stages of capacity 1, with two parties each, lead to a third, and that to the one number.
 #[test]
 fn paths_meet_at_the_last_stage(rt: HostRuntime) -> Result<(), Fail> {
     let caps = vec![in rt.alloc(); 1; 3]?;

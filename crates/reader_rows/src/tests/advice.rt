@@ -1,6 +1,7 @@
-use crate::{Horizon, advice_of, advice_text};
+//! All kinds of advice on one licence and one options file.
 use feature_lines::read_licence;
 use lic_types::Day;
+use lint_advice::{Horizon, advice_of, advice_text};
 use options_text::read_options;
 use std::process::Abort;
 use std::test::Fail;
