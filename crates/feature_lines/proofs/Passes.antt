@@ -6,11 +6,13 @@ use Rattle.std.specs.Option.{option_to_list}
 use Rattle.std.proofs.lemmas.List.Folds.{list_any-append}
 use Rattle.lic_text.specs.Lines.{Worded}
 use Rattle.lic_text.specs.Number.{number_of}
+use Rattle.lic_text.specs.Reads.{IsFaultOf}
 use Rattle.lic_text.specs.declared.fault.TextFault.{TextFault}
+use Rattle.lic_text.proofs.Readings.{fault_too}
 use Rattle.lic_types.specs.Groups.{same_name}
 use Rattle.lic_types.specs.declared.note.Note.{Note}
 use Rattle.lic_types.specs.declared.note.NoteKind.TheVariants.{SecondFeature, NodeLocked, NotServed}
-use Rattle.feature_lines.specs.Licence.{Contents, IsFaultOf, Judged, count_fault, counted, counted_in, fault_in, first_some, has_line, is_feature_of, is_second, licence_in, line_key, note_in, notes_of, pools_of, some_or, total, unless_fault, with_before}
+use Rattle.feature_lines.specs.Licence.{Contents, Judged, count_fault, counted, counted_in, fault_in, fault_told, first_some, has_line, is_feature_of, is_second, licence_in, line_key, note_in, notes_of, pools_of, some_or, total, unless_fault, with_before}
 use Rattle.feature_lines.specs.Line.{within_limit, feature_of, granted, judged, keyword_of, or_fault, said_by, said_of, terms_of, with_word}
 use Rattle.lic_types.specs.NameSets.{has_name, with_name}
 use Rattle.feature_lines.specs.Steps.{Sofar, added, added_to, blank, counted_or_locked, noted, passed, raised, stepped, taken, with_pools}
@@ -22,7 +24,6 @@ use Rattle.feature_lines.specs.declared.line.Keyword.TheVariants.{Feature as IsF
 use Rattle.feature_lines.specs.declared.line.Said.TheVariants.{Nothing, NotServed as Unserved, Feature}
 use Rattle.feature_lines.specs.declared.line.Terms.{Terms}
 use Rattle.feature_lines.specs.declared.pool.Pool.{Pool}
-use Rattle.feature_lines.proofs.Faults.{fault_too}
 use Rattle.feature_lines.proofs.Keys.{same_name_is}
 use Rattle.lic_types.proofs.NameSets.{has_with}
 use Rattle.feature_lines.proofs.Sums.{no_total, none_of_key, one_of_key, pools_more, pools_new, told_push}
@@ -249,9 +250,9 @@ pub pass_reads : (lines : List Judged) → AreSmall lines → ended (passed (Ok 
 pass_reads lines small = passes lines [] blank (record { pools = refl; notes = refl; features = λ name. refl }) small
 
 -- a fault of the next line is the licence's
-pub pass_refuses : (s : Sofar) (line : Judged) (lines all : List Judged) (fault : LicenceFault) → AreSmall all → passed (Ok s) (line ∷ lines) ≡ passed (Ok blank) all → IsFaultOf (stepped s line) fault → IsFaultOf (licence_in all) fault
+pub pass_refuses : (s : Sofar) (line : Judged) (lines all : List Judged) (fault : LicenceFault) → AreSmall all → passed (Ok s) (line ∷ lines) ≡ passed (Ok blank) all → IsFaultOf fault_told (stepped s line) fault → IsFaultOf fault_told (licence_in all) fault
 pass_refuses s line lines all fault small same is =
-    fault_too (stepped s line) (licence_in all) fault (λ f e. sym (pass_reads all small) ∙ ap ended (sym same ∙ (ap (λ (r : Result Sofar LicenceFault). passed r lines) e ∙ passed_fault lines f))) is
+    fault_too fault_told (stepped s line) (licence_in all) fault (λ f e. sym (pass_reads all small) ∙ ap ended (sym same ∙ (ap (λ (r : Result Sofar LicenceFault). passed r lines) e ∙ passed_fault lines f))) is
 
 -- ---- counts are small
 

@@ -1,6 +1,6 @@
 use Rattle.std.proofs.Common.{◌≡◌, ℕ, ◌+◌, ◌<◌, ◌≤◌, Bool, true, false, ◌||◌, not, ltb, eqb, cond, List, [], ◌∷◌, ◌++◌, length, Option, None, Some, Result, Ok, Err, refl, ap, ◌∙◌, length-append, subst, arith}
 use Rattle.std.proofs.lemmas.Bool.Decides.{nat_tests}
-use Rattle.std.proofs.lemmas.Bool.{ltb-true, ltb-false}
+use Rattle.std.proofs.lemmas.Bool.{ltb-true, ltb-false, or_parts}
 use Rattle.std.specs.List.{find, list_all}
 use Rattle.std.proofs.lemmas.List.Folds.{list_any-append}
 use Rattle.feature_lines.specs.Licence.{ArePools, Judged, PoolKey, are_apart, has_licences, has_pool, line_key, pool_key, pool_with, same_key}
@@ -33,10 +33,6 @@ all_push (q ∷ qs) p all has = let two = both (has_licences q) (list_all has_li
 none_has : (key : PoolKey) (pools : List Pool) → find (λ p. same_key key (pool_key p)) pools ≡ None → has_pool key pools ≡ false
 none_has key [] none = refl
 none_has key (p ∷ ps) none = elim (same_key key (pool_key p)) as (λ (t : Bool). cond t (Some p) (find (λ p. same_key key (pool_key p)) ps) ≡ None → (t || has_pool key ps) ≡ false) [ true ↦ λ e. absurd cc | false ↦ λ e. none_has key ps e ] none
-
-or_parts : (a b : Bool) → (a || b) ≡ false → (a ≡ false) × (b ≡ false)
-or_parts false b h = (refl, h)
-or_parts true b h = absurd cc
 
 not_true : (b : Bool) → not b ≡ true → b ≡ false
 not_true true h = absurd cc

@@ -1,6 +1,7 @@
 use Rattle.std.proofs.Common.{◌≡◌, ℕ, ◌+◌, Bool, true, false, ◌||◌, cond, List, [], ◌∷◌, ◌++◌, Option, None, Some, refl, sym, ap, ◌∙◌, append_assoc, append-nil, arith}
 use Rattle.std.specs.List.{filter, filter_map, find, sum_by, cons_option}
 use Rattle.std.specs.Option.{option_to_list}
+use Rattle.std.proofs.lemmas.Bool.{or_parts}
 use Rattle.std.proofs.lemmas.List.Elements.{filter-append, filter_map-append}
 use Rattle.std.proofs.lemmas.List.Folds.{list_any-append}
 use Rattle.std.proofs.lemmas.List.Sums.{sum_by-append}
@@ -45,10 +46,6 @@ total_other lines f key other = total_push lines f key ∙ rw other (omega arith
 
 total_same : (lines : List FeatureLine) (f : FeatureLine) (key : PoolKey) → same_key key (line_key f) ≡ true → total (lines ++ f ∷ []) key ≡ total lines key + f.count
 total_same lines f key same = total_push lines f key ∙ rw same refl
-
-or_parts : (a b : Bool) → (a || b) ≡ false → (a ≡ false) × (b ≡ false)
-or_parts false b h = (refl, h)
-or_parts true b h = absurd cc
 
 total_none : (lines : List FeatureLine) (key : PoolKey) → has_line lines key ≡ false → filter (λ g. same_key key (line_key g)) lines ≡ []
 total_none [] key h = refl

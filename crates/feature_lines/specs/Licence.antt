@@ -151,15 +151,10 @@ licence_in lines = unless_fault (first_fault lines) (record { pools = pools_of (
 abbrev pub licence_of : List ℕ → Result Contents LicenceFault
 licence_of file = licence_in (map judged (lines_of file))
 
--- a fault is the one of this reading; want of memory may come at any time
-abbrev pub IsFaultOf : {X : Type 0} → Result X LicenceFault → LicenceFault → Type 0
-IsFaultOf reading NoMemory = Unit {0}
-IsFaultOf reading fault = reading ≡ Err fault
-
--- an answer is this reading, unless there was too little memory
-abbrev pub IsReading : {X : Type 0} → Result X LicenceFault → Result X LicenceFault → Type 0
-IsReading reading (Ok x) = reading ≡ Ok x
-IsReading reading (Err fault) = IsFaultOf reading fault
+-- the fault of a file that a fault tells; want of memory tells none
+abbrev pub fault_told : LicenceFault → Option LicenceFault
+fault_told NoMemory = None
+fault_told fault = Some fault
 
 -- whether a pool has from 1 to 65,535 licences
 abbrev pub has_licences : Pool → Bool

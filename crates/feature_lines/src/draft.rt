@@ -1,8 +1,9 @@
 ghost use Rattle.std.specs.Prelude.{◌≡◌, ◌<◌, length, IfErr, IfSome, OnOk, Ok};
 ghost use Rattle.feature_lines.specs.declared.fault.LicenceFault.TheVariants.{NoMemory};
 ghost use Rattle.std.specs.List.{position_from};
+ghost use Rattle.lic_text.specs.Reads.{IsFaultOf};
 ghost use Rattle.feature_lines.specs.Draft.{sofar_of};
-ghost use Rattle.feature_lines.specs.Licence.{IsFaultOf, date_of, line_key, pool_key, pool_with, same_date, same_key};
+ghost use Rattle.feature_lines.specs.Licence.{date_of, fault_told, line_key, pool_key, pool_with, same_date, same_key};
 ghost use Rattle.feature_lines.specs.Steps.{added, counted_or_locked, noted, stepped, taken};
 
 use crate::fault::LicenceFault;
@@ -73,7 +74,7 @@ fn first_pool(feature: &FeatureLine) -> Pool
 /// Adds the count of a line to its pool, or makes that pool.
 fn add(pools: &mut Vec<Pool>, feature: &FeatureLine) -> Result<(), LicenceFault>
     ensures ok { OnOk result (added feature.now pools.old.items ≡ Ok pools.new.items) }
-    ensures err { IfErr result (IsFaultOf (added feature.now pools.old.items)) }
+    ensures err { IfErr result (IsFaultOf fault_told (added feature.now pools.old.items)) }
 {
     let Some(at) = place_of(feature, pools.as_slice()) else {
         if pools.len() >= POOL_LIMIT {
@@ -102,7 +103,7 @@ fn note(draft: &mut Draft, line: u32, kind: NoteKind) -> Result<(), LicenceFault
 /// Takes a line whose name no FEATURE line before it has, or that is an INCREMENT line.
 fn count_or_lock(draft: &mut Draft, feature: &FeatureLine) -> Result<(), LicenceFault>
     ensures ok { OnOk result (counted_or_locked (sofar_of draft.old) feature.now ≡ Ok (sofar_of draft.new)) }
-    ensures err { IfErr result (IsFaultOf (counted_or_locked (sofar_of draft.old) feature.now)) }
+    ensures err { IfErr result (IsFaultOf fault_told (counted_or_locked (sofar_of draft.old) feature.now)) }
 {
     if feature.count == 0 {
         return note(draft, feature.line, NoteKind::NodeLocked);
@@ -113,7 +114,7 @@ fn count_or_lock(draft: &mut Draft, feature: &FeatureLine) -> Result<(), Licence
 /// Takes a FEATURE or INCREMENT line.
 fn take_feature(draft: &mut Draft, feature: &FeatureLine) -> Result<(), LicenceFault>
     ensures ok { OnOk result (taken (sofar_of draft.old) feature.now ≡ Ok (sofar_of draft.new)) }
-    ensures err { IfErr result (IsFaultOf (taken (sofar_of draft.old) feature.now)) }
+    ensures err { IfErr result (IsFaultOf fault_told (taken (sofar_of draft.old) feature.now)) }
 {
     if feature.is_feature {
         let is_first = add_name(&mut draft.features, feature.name)?;
@@ -127,7 +128,7 @@ fn take_feature(draft: &mut Draft, feature: &FeatureLine) -> Result<(), LicenceF
 /// Takes what the next line says.
 pub(crate) fn take(draft: &mut Draft, said: &Said) -> Result<(), LicenceFault>
     ensures ok { OnOk result (stepped (sofar_of draft.old) (Ok said.now) ≡ Ok (sofar_of draft.new)) }
-    ensures err { IfErr result (IsFaultOf (stepped (sofar_of draft.old) (Ok said.now))) }
+    ensures err { IfErr result (IsFaultOf fault_told (stepped (sofar_of draft.old) (Ok said.now))) }
 {
     match said {
         Said::Nothing => Ok(()),

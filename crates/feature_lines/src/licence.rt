@@ -1,10 +1,11 @@
 ghost use Rattle.std.specs.Prelude.{◌≡◌, ◌^◌, ◌<◌, ◌≤◌, ◌↔◌, length, true, false, IfErr, OnOk, Ok};
 ghost use Rattle.std.specs.List.{list_all, list_any};
 ghost use Rattle.lic_text.specs.LinesLeft.{shown};
+ghost use Rattle.lic_text.specs.Reads.{IsFaultOf, Reads};
 ghost use Rattle.feature_lines.specs.Draft.{sofar_of};
 ghost use Rattle.feature_lines.specs.Line.{judged};
 ghost use Rattle.feature_lines.specs.Steps.{stepped};
-ghost use Rattle.feature_lines.specs.Licence.{IsFaultOf, IsReading, are_apart, has_licences, licence_of};
+ghost use Rattle.feature_lines.specs.Licence.{are_apart, fault_told, has_licences, licence_of};
 ghost use Rattle.feature_lines.specs.Route.{IsThere, is_new_enough, route};
 ghost use Rattle.feature_lines.specs.declared.route.Found.TheVariants.{Unknown};
 
@@ -70,7 +71,7 @@ impl Licence {
 /// Takes the next line.
 fn take_line(draft: &mut Draft, line: Result<Line<'_>, TextFault>) -> Result<(), LicenceFault>
     ensures ok { OnOk result (stepped (sofar_of draft.old) (judged (shown line.entry)) ≡ Ok (sofar_of draft.new)) }
-    ensures err { IfErr result (IsFaultOf (stepped (sofar_of draft.old) (judged (shown line.entry)))) }
+    ensures err { IfErr result (IsFaultOf fault_told (stepped (sofar_of draft.old) (judged (shown line.entry)))) }
 {
     let said = read_line(line)?;
     take(draft, &said)
@@ -80,7 +81,7 @@ fn take_line(draft: &mut Draft, line: Result<Line<'_>, TextFault>) -> Result<(),
 /// fault of its first line at fault. It makes one pass over the file. Want of memory may be answered at any line.
 pub fn read_licence(alloc: Global, file: &[u8]) -> Result<Licence, LicenceFault>
     requires { length file.now < 2 ^ 32 }
-    ensures { IsReading (licence_of file.now) result }
+    ensures { Reads (λ licence. licence) fault_told (licence_of file.now) result }
 {
     let mut draft = Draft {
         pools: Vec::new(alloc),

@@ -1,12 +1,9 @@
-use Rattle.std.proofs.Common.{◌≡◌, ◌≢◌, ◌+◌, ◌≤◌, ◌<◌, ℕ, List, [], length, replicate, None, Some, IfSome, Result, Ok, Err, refl, sym, ap, subst, arith, le-ltb, lt-ltb}
+use Rattle.std.proofs.Common.{◌≡◌, ◌+◌, ◌≤◌, ◌<◌, ℕ, List, [], length, replicate, None, Some, IfSome, Result, Ok, Err, refl, sym, ap, subst, arith, le-ltb, lt-ltb}
 use Rattle.std.proofs.lemmas.List.{length-replicate}
 use Rattle.options_text.specs.Answers.{◌>>=◌}
 use Rattle.licence_tool.specs.Files.{Bytes, IsReading}
 use Rattle.licence_tool.specs.Outcome.{heard}
-use Rattle.options_text.specs.Options.{OptionsFile}
-use Rattle.options_text.specs.declared.fault.OptionsFault.{OptionsFault}
-use Rattle.options_text.specs.declared.fault.OptionsFault.TheVariants.{NoMemory as TooLittle}
-use Rattle.licence_tool.specs.Tool.{HearingSays, IsHeard, IsOptionsFault, RefusalSays}
+use Rattle.licence_tool.specs.Tool.{HearingSays, IsHeard, RefusalSays}
 use Rattle.licence_tool.specs.declared.status.Status.{Status}
 use Rattle.licence_tool.specs.declared.status.Status.TheVariants.{Done, Usage, Licence, Options, MoreOptions, Script, ReadFault, WriteFault, NoMemory, FileTooLong, AuditNo}
 
@@ -110,13 +107,3 @@ heard_failed bytes_of position Failed told failed = record { reading = None; is 
 pub heard_without_memory : {V : Type 0} (bytes_of : V → List ℕ) (position : ℕ) (Failed : Type 0) (told : Bytes)
     → IsHeard bytes_of (heard position) Failed told (Err NoMemory)
 heard_without_memory bytes_of position Failed told = record { reading = agreeing told; is = is_agreeing Failed told; says = tt }
-
-abbrev pub refused_for : OptionsFault → Result OptionsFile OptionsFault
-refused_for fault = Err fault
-
--- the fault of options that a reader answers
-pub options_fault : (options : Result OptionsFile OptionsFault) (fault : OptionsFault) → (refused_for fault ≢ refused_for TooLittle → refused_for fault ≡ options) → IsOptionsFault options fault
-options_fault options fault says = λ own. sym (says (λ (e : refused_for fault ≡ refused_for TooLittle). own (same_fault fault e)))
-  where
-    same_fault : (f : OptionsFault) → refused_for f ≡ refused_for TooLittle → f ≡ TooLittle
-    same_fault f e = cc

@@ -1,7 +1,5 @@
-use Rattle.std.specs.Prelude.{◌≡◌, ◌≢◌, ℕ, ◌⊎◌, true, List, [], ◌∷◌, Option, IfSome, Result, Ok, Err}
+use Rattle.std.specs.Prelude.{◌≡◌, ℕ, ◌⊎◌, true, List, [], ◌∷◌, Option, IfSome, Result, Ok, Err}
 use Rattle.options_text.specs.Options.{OptionsFile}
-use Rattle.options_text.specs.declared.fault.OptionsFault.{OptionsFault}
-use Rattle.options_text.specs.declared.fault.OptionsFault.TheVariants.{NoMemory as TooLittle}
 use Rattle.outside.specs.Told.{TakesFront, told_with}
 use Rattle.feature_lines.specs.Licence.{Contents}
 use Rattle.script_text.specs.declared.line.ScriptLine.{ScriptLine}
@@ -60,10 +58,6 @@ RefusalSays Failed heard Done = ⊥
 RefusalSays Failed heard Usage = ⊥
 RefusalSays Failed heard WriteFault = ⊥
 RefusalSays Failed heard (AuditNo line) = ⊥
-
--- a fault is the one of these options; want of memory may come at any time
-abbrev pub IsOptionsFault : Result OptionsFile OptionsFault → OptionsFault → Type 0
-IsOptionsFault options fault = fault ≢ TooLittle → options ≡ Err fault
 
 -- what a result says of what is heard of a file
 abbrev pub HearingSays : {X Y : Type 0} → (X → Y) → Type 0 → Result Y Status → Result X Status → Type 0

@@ -1,4 +1,4 @@
-use Rattle.std.specs.Prelude.{◌≡◌, ℕ, Bool, true, ◌&&◌, not, nat_lt, if◌then◌else◌, List, filter, map, Option, None, Some, Result, Ok, Err}
+use Rattle.std.specs.Prelude.{ℕ, Bool, true, ◌&&◌, not, nat_lt, if◌then◌else◌, List, filter, map, Option, None, Some, Result, Ok, Err}
 use Rattle.lic_types.specs.declared.limits.TheConstants.{MOMENT_END, PARTY_LIMIT}
 use Rattle.lic_text.specs.Lines.{Worded, lines_of}
 use Rattle.lic_text.specs.declared.fault.TextFault.{TextFault}
@@ -40,10 +40,10 @@ found (Err fault) = Err fault
 abbrev pub read_of : ℕ → Result Worded TextFault → Result (Option Numbered) ScriptFault
 read_of pools line = if tells line then found (numbered pools line) else Ok None
 
--- the fault tells the log's, unless it is want of memory
-abbrev pub IsRefused : Result (List Numbered) ScriptFault → AuditFault → Type 0
-IsRefused log (Log fault) = log ≡ Err fault
-IsRefused log NoMemory = Unit {0}
+-- the fault of a log that a fault tells; want of memory tells none
+abbrev pub fault_told : AuditFault → Option ScriptFault
+fault_told (Log fault) = Some fault
+fault_told NoMemory = None
 
 -- an entry of one of so many pools, at a moment and of a party that there may be
 abbrev pub is_fit : ℕ → Numbered → Bool

@@ -1,9 +1,10 @@
 //! The entries of a log, read from its lines.
-ghost use Rattle.std.specs.Prelude.{◌≡◌, ◌++◌, ◌<◌, ◌^◌, IfErr, IfOk, IfSome, MatchResult, OnOk, Ok, length, true};
+ghost use Rattle.std.specs.Prelude.{◌≡◌, ◌++◌, ◌<◌, ◌^◌, IfErr, IfOk, IfSome, OnOk, Ok, length, true};
 ghost use Rattle.std.specs.List.{list_all};
 ghost use Rattle.std.specs.Option.{option_to_list};
 ghost use Rattle.lic_text.specs.LinesLeft.{shown};
-ghost use Rattle.log_audit.specs.Log.{IsRefused, is_fit, log_of, read_of};
+ghost use Rattle.lic_text.specs.Reads.{Reads};
+ghost use Rattle.log_audit.specs.Log.{fault_told, is_fit, log_of, read_of};
 ghost use Rattle.log_audit.specs.declared.fault.AuditFault.TheVariants.{NoMemory as Want};
 
 use crate::fault::AuditFault;
@@ -63,7 +64,7 @@ fn push_some(log: &mut Vec<Numbered>, found: Option<Numbered>) -> Result<(), Aud
 /// memory to hold the entries.
 pub fn read_log(alloc: Global, pools: usize, file: &[u8]) -> Result<Vec<Numbered>, AuditFault>
     requires { length file.now < 2 ^ 32 }
-    ensures log { MatchResult result (λ log. log_of pools file.now ≡ Ok log.items) (IsRefused (log_of pools file.now)) }
+    ensures log { Reads (λ log. log.items) fault_told (log_of pools file.now) result }
     ensures fit { IfOk result (λ log. list_all (is_fit pools) log.items ≡ true) }
 {
     let mut log = Vec::new(alloc);

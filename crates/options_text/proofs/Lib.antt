@@ -13,3 +13,4 @@ pub mod Words
 pub mod Forms
 pub mod ReadsBack
 pub mod NameSets
+pub mod Faults

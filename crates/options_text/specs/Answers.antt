@@ -1,4 +1,4 @@
-use Rattle.std.specs.Prelude.{◌≡◌, ◌≢◌, List, ◌++◌, Result, Ok, Err}
+use Rattle.std.specs.Prelude.{◌≡◌, ◌≢◌, List, ◌++◌, Option, None, Some, Result, Ok, Err}
 use Rattle.options_text.specs.declared.fault.OptionsFault.{OptionsFault}
 use Rattle.options_text.specs.declared.fault.OptionsFault.TheVariants.{NoMemory}
 
@@ -7,6 +7,11 @@ infixl 10 ◌>>=◌
 abbrev pub ◌>>=◌ : {A B E : Type 0} → Result A E → (A → Result B E) → Result B E
 Ok x >>= f = f x
 Err e >>= f = Err e
+
+-- the fault of a file that a fault tells; want of memory tells none
+abbrev pub fault_told : OptionsFault → Option OptionsFault
+fault_told NoMemory = None
+fault_told fault = Some fault
 
 -- what is seen of a result is this, unless there was too little memory
 abbrev pub IsAnswer : {X Y : Type 0} → (X → Y) → Result X OptionsFault → Result Y OptionsFault → Type 0

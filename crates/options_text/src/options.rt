@@ -1,7 +1,8 @@
-ghost use Rattle.std.specs.Prelude.{◌≡◌, ◌≢◌, ◌<◌, ◌≤◌, ◌^◌, ◌==◌, ℕ, Ok, Err, IfOk, map, count_by, length, true};
+ghost use Rattle.std.specs.Prelude.{◌≡◌, ◌<◌, ◌≤◌, ◌^◌, ◌==◌, ℕ, Ok, IfOk, map, count_by, length, true};
 ghost use Rattle.std.specs.List.{list_all};
 ghost use Rattle.std.specs.List.Sorted.{IsStrictlyIncreasing};
-ghost use Rattle.options_text.specs.Answers.{IsAnswer};
+ghost use Rattle.lic_text.specs.Reads.{Reads};
+ghost use Rattle.options_text.specs.Answers.{IsAnswer, fault_told};
 ghost use Rattle.options_text.specs.Canonical.{canonical};
 ghost use Rattle.options_text.specs.Entries.{is_within_limits};
 ghost use Rattle.options_text.specs.Options.{IsOrderly, options_of};
@@ -118,7 +119,7 @@ fn read_parts(alloc: Global, file: &[u8]) -> Result<Parts, OptionsFault>
 /// nothing.
 pub fn read_options(alloc: Global, file: &[u8]) -> Result<Options, OptionsFault>
     requires { length file.now < 2 ^ 32 }
-    ensures { result ≢ Err OptionsFault.NoMemory → result ≡ options_of file.now }
+    ensures { Reads (λ options. options) fault_told (options_of file.now) result }
 {
     let parts = read_parts(alloc, file)?;
     Ok(Options {

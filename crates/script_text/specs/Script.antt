@@ -1,4 +1,4 @@
-use Rattle.std.specs.Prelude.{◌≡◌, ℕ, List, map, Result, Ok, Err}
+use Rattle.std.specs.Prelude.{ℕ, List, map, Option, None, Some, Result, Ok, Err}
 use Rattle.lic_text.specs.Lines.{Worded, lines_of}
 use Rattle.lic_text.specs.declared.fault.TextFault.{TextFault}
 use Rattle.script_words.specs.Fields.{at_line}
@@ -19,7 +19,7 @@ line_of (Err fault) = Err (at_its_line fault)
 abbrev pub script_of : List ℕ → Result (List ScriptLine) ScriptFault
 script_of file = all_or_first_fault (map line_of (lines_of file))
 
--- the refusal tells the script's fault, unless it is want of memory
-abbrev pub IsRefused : Result (List ScriptLine) ScriptFault → ScriptRefusal → Type 0
-IsRefused script (Fault fault) = script ≡ Err fault
-IsRefused script NoMemory = Unit {0}
+-- the fault of a script that a refusal tells; want of memory tells none
+abbrev pub fault_told : ScriptRefusal → Option ScriptFault
+fault_told (Fault fault) = Some fault
+fault_told NoMemory = None

@@ -1,8 +1,9 @@
-ghost use Rattle.std.specs.Prelude.{◌≡◌, ◌<◌, ◌^◌, IfOk, MatchResult, Ok, length, true};
+ghost use Rattle.std.specs.Prelude.{◌≡◌, ◌<◌, ◌^◌, IfOk, length, true};
 ghost use Rattle.std.specs.List.{list_all};
 ghost use Rattle.lic_text.specs.LinesLeft.{shown};
+ghost use Rattle.lic_text.specs.Reads.{Reads};
 ghost use Rattle.script_text.specs.Fits.{is_fit};
-ghost use Rattle.script_text.specs.Script.{IsRefused, line_of, script_of};
+ghost use Rattle.script_text.specs.Script.{fault_told, line_of, script_of};
 
 use crate::line::ScriptLine;
 use crate::refusal::ScriptRefusal;
@@ -51,7 +52,7 @@ fn read_line(line: Result<Line<'_>, TextFault>) -> Result<ScriptLine, ScriptFaul
 /// `NoMemory` comes where there is too little memory to hold the lines.
 pub fn read_script(alloc: Global, file: &[u8]) -> Result<Vec<ScriptLine>, ScriptRefusal>
     requires { length file.now < 2 ^ 32 }
-    ensures script { MatchResult result (λ script. script_of file.now ≡ Ok script.items) (IsRefused (script_of file.now)) }
+    ensures script { Reads (λ script. script.items) fault_told (script_of file.now) result }
     ensures fit { IfOk result (λ script. list_all is_fit script.items ≡ true) }
 {
     let mut script = Vec::new(alloc);

@@ -1,5 +1,5 @@
 -- How the licence of a trial is read.
-use Rattle.std.proofs.Common.{◌≡◌, ◌==◌, ℕ, ◌+◌, ◌^◌, ◌<◌, ◌≤◌, nat_le, not, true, false, ltb, List, [], ◌∷◌, ◌++◌, length, decimal, map, codes, Option, None, Some, Result, Ok, Err, refl, sym, subst, ap, ◌∙◌, arith, rules}
+use Rattle.std.proofs.Common.{◌≡◌, ◌==◌, ℕ, ◌+◌, ◌^◌, ◌<◌, ◌≤◌, nat_le, not, true, false, ltb, List, [], ◌∷◌, ◌++◌, length, decimal, map, codes, Option, None, Some, Result, Ok, refl, sym, ap, ◌∙◌, arith, rules}
 use Rattle.std.proofs.lemmas.Bool.{and_parts, and_from, leb-true, le-leb, lt-ltb, le-ltb, ne_eqb}
 use Rattle.std.proofs.lemmas.Fmt.{decimal_nonempty, digits_decimal, digits_value-decimal, length-decimal-le}
 use Rattle.std.proofs.lemmas.List.{append-nil, length-append}
@@ -14,11 +14,10 @@ use Rattle.lic_text.specs.Front.{has_no_end, joined_text, line_count, lines_behi
 use Rattle.lic_text.specs.Lines.{Worded, fault_of, lines_from, lines_of, words_of}
 use Rattle.lic_text.specs.declared.fault.TextFault.{TextFault}
 use Rattle.lic_text.proofs.Fronts.{at_words, none_left}
-use Rattle.feature_lines.specs.Licence.{Contents, IsFaultOf, IsReading, licence_in, licence_of}
+use Rattle.feature_lines.specs.Licence.{licence_in, licence_of}
 use Rattle.feature_lines.specs.Line.{count_of, granted, is_word, judged, or_fault, said_of}
 use Rattle.feature_lines.specs.declared.fault.LicenceFault.{LicenceFault}
 use Rattle.feature_lines.specs.declared.fault.LicenceFault.TheVariants.{BadCount}
-use Rattle.feature_lines.specs.declared.fault.LicenceFault.TheVariants as licence
 use Rattle.feature_lines.specs.declared.line.FeatureLine.{FeatureLine}
 use Rattle.feature_lines.specs.declared.line.Said.{Said}
 use Rattle.feature_lines.specs.declared.line.Said.TheVariants.{Feature as Grants}
@@ -192,28 +191,9 @@ module _ (n : ℕ) (low : n < 2 ^ 64) (few : n ≤ 65535) where
   pub reads : 0 < n → licence_of (licence_text n) ≡ Ok (record { pools = trial_pool n ∷ []; notes = [] })
   reads some = ap licence_in judged_is ∙ licence_is some
 
--- a reading with an answer has no fault but want of memory
-pub memory_alone : {X : Type 0} (x : X) (reading : Result X LicenceFault) (fault : LicenceFault) → reading ≡ Ok x → IsFaultOf reading fault → fault ≡ licence.NoMemory
-memory_alone x reading licence.NoMemory is h = refl
-memory_alone x reading (licence.Line f) is h = absurd cc
-memory_alone x reading (licence.BadWord line word) is h = absurd cc
-memory_alone x reading (licence.BadVersion line) is h = absurd cc
-memory_alone x reading (licence.BadDate line) is h = absurd cc
-memory_alone x reading (licence.BadCount line) is h = absurd cc
-memory_alone x reading (licence.TooManyPools line) is h = absurd cc
-
--- what is read of the text of a licence
-pub read_of : (n : ℕ) (text : List ℕ) (answer : Result Contents LicenceFault) → 1 ≤ n → n ≤ 65535 → text ≡ licence_text n → IsReading (licence_of text) answer → (c : Contents) → answer ≡ Ok c → c.pools ≡ trial_pool n ∷ []
-read_of n text answer some few is reading c ok =
-    let told : licence_of text ≡ Ok (record { pools = trial_pool n ∷ []; notes = [] }) = ap licence_of is ∙ reads n (omega arith) few (omega arith) in
-    let said : licence_of text ≡ Ok c = subst (λ (r : Result Contents LicenceFault). IsReading (licence_of text) r) ok reading in
-    let same : c ≡ record { pools = trial_pool n ∷ []; notes = [] } = cc in
-    ap (λ (x : Contents). x.pools) same
-
-pub fault_of_text : (n : ℕ) (text : List ℕ) (answer : Result Contents LicenceFault) → 1 ≤ n → n ≤ 65535 → text ≡ licence_text n → IsReading (licence_of text) answer → (fault : LicenceFault) → answer ≡ Err fault → fault ≡ licence.NoMemory
-fault_of_text n text answer some few is reading fault err =
-    let told : licence_of text ≡ Ok (record { pools = trial_pool n ∷ []; notes = [] }) = ap licence_of is ∙ reads n (omega arith) few (omega arith) in
-    memory_alone _ (licence_of text) fault told (subst (λ (r : Result Contents LicenceFault). IsReading (licence_of text) r) err reading)
+-- what the text of a licence says
+pub text_says : (n : ℕ) (text : List ℕ) → 1 ≤ n → n ≤ 65535 → text ≡ licence_text n → licence_of text ≡ Ok (record { pools = trial_pool n ∷ []; notes = [] })
+text_says n text some few is = ap licence_of is ∙ reads n (omega arith) few (omega arith)
 
 -- an empty options file
 pub no_lines : options_of [] ≡ Ok no_options

@@ -1,5 +1,8 @@
 use Rattle.std.proofs.Common.{◌∙◌, ap, length, arith}
-use Rattle.trial_terms.proofs.Reading.{fault_of_text, read_of, short}
+use Rattle.lic_text.proofs.Readings.{no_fault_read, value_read}
+use Rattle.feature_lines.proofs.Faults.{tells_none}
+use Rattle.feature_lines.specs.Licence.{Contents, fault_told}
+use Rattle.trial_terms.proofs.Reading.{short, text_says}
 use Rattle.trial_terms.proofs.trial_licence.Goals as goal
 use Rattle.trial_terms.proofs.trial_licence.Goals.{in-NoMemory, in_default}
 
@@ -9,9 +12,12 @@ read_licence-requires c =
     omega (arith, ap length (c.as_bytes.ensures.value ∙ c.in_ok-text.ensures), long)
 
 pub returns-in-Ok : goal.returns-in-Ok
-returns-in-Ok c = read_of c.args.seats c.as_bytes.result.now c.read_licence.result c.requires.0 c.requires.1 (c.as_bytes.ensures.value ∙ c.in_ok-text.ensures) c.read_licence.ensures c.in-Ok.licence c.in-Ok.is
+returns-in-Ok c =
+    let said = text_says c.args.seats c.as_bytes.result.now c.requires.0 c.requires.1 (c.as_bytes.ensures.value ∙ c.in_ok-text.ensures) in
+    ap (λ (x : Contents). x.pools) (value_read (λ licence. licence) fault_told _ _ c.read_licence.result said c.read_licence.ensures c.in-Ok.licence c.in-Ok.is)
 
 pub prove-unreachable-requires : goal.prove-unreachable-requires
 prove-unreachable-requires c =
-    let memory = fault_of_text c.args.seats c.as_bytes.result.now c.read_licence.result c.requires.0 c.requires.1 (c.as_bytes.ensures.value ∙ c.in_ok-text.ensures) c.read_licence.ensures c.in-Err.fault c.in-Err.is in
+    let said = text_says c.args.seats c.as_bytes.result.now c.requires.0 c.requires.1 (c.as_bytes.ensures.value ∙ c.in_ok-text.ensures) in
+    let memory = tells_none c.in-Err.fault (no_fault_read (λ licence. licence) fault_told _ _ c.read_licence.result said c.read_licence.ensures c.in-Err.fault c.in-Err.is) in
     elim c.match-matches.branch [ in-NoMemory w ↦ absurd (cc) | in_default w ↦ absurd (w.in_default.not-NoMemory memory) ]

@@ -1,19 +1,14 @@
-use Rattle.std.proofs.Common.{◌∙◌}
+use Rattle.lic_text.proofs.Readings.{no_fault_read, value_read}
+use Rattle.options_text.proofs.Faults.{tells_none}
+use Rattle.options_text.specs.Answers.{fault_told}
 use Rattle.trial_terms.proofs.Reading.{no_lines}
 use Rattle.trial_terms.proofs.trial_options.Goals as goal
 use Rattle.trial_terms.proofs.trial_options.Goals.{in-NoMemory, in_default}
 
 pub returns-in-Ok : goal.returns-in-Ok
-returns-in-Ok c =
-    let said = c.read_options.ensures (λ e. cc) ∙ no_lines in
-    cc
+returns-in-Ok c = value_read (λ options. options) fault_told _ _ c.read_options.result no_lines c.read_options.ensures c.in-Ok.options c.in-Ok.is
 
 pub prove-unreachable-requires : goal.prove-unreachable-requires
 prove-unreachable-requires c =
-    elim c.match-matches.branch [
-      | in-NoMemory w ↦ absurd (cc)
-      | in_default w ↦
-          let other = c.read_options.ensures (λ e. w.in_default.not-NoMemory cc) in
-          let said = other ∙ no_lines in
-          absurd cc
-    ]
+    let memory = tells_none c.in-Err.fault (no_fault_read (λ options. options) fault_told _ _ c.read_options.result no_lines c.read_options.ensures c.in-Err.fault c.in-Err.is) in
+    elim c.match-matches.branch [ in-NoMemory w ↦ absurd (cc) | in_default w ↦ absurd (w.in_default.not-NoMemory memory) ]
