@@ -4,7 +4,7 @@ use Rattle.feature_lines.specs.declared.pool.Pool.{Pool}
 use Rattle.options_machine.specs.Own.{holds, queues}
 use Rattle.options_machine.specs.Rules.{Rules}
 use Rattle.options_machine.specs.Run.{after}
-use Rattle.options_machine.specs.Settle.{moved}
+use Rattle.options_machine.specs.Settle.{later_moment}
 use Rattle.options_machine.specs.Step.{step}
 use Rattle.options_machine.specs.declared.reply.Entry.{Entry}
 use Rattle.options_machine.specs.declared.reply.Request.{Request}
@@ -22,8 +22,8 @@ request_of line = record { party = line.party; client = line.client; kind = line
 abbrev pub entry_of : List Rules → List Entry → ScriptLine → Entry
 entry_of sets h line = record {
   request = request_of line;
-  moment = moved (after sets h).now line.moment;
-  reply = (step sets (after sets h) (request_of line) (moved (after sets h).now line.moment)).0;
+  moment = later_moment (after sets h).now line.moment;
+  reply = (step sets (after sets h) (request_of line) (later_moment (after sets h).now line.moment)).0;
 }
 
 -- the ledger with the entry that a line makes there
