@@ -14,7 +14,7 @@ use Rattle.options_machine.specs.declared.reply.Reply.TheVariants as reply
 use Rattle.reply_words.specs.Words.{reply_text}
 use Rattle.script_words.specs.Fields.{below, client_of, name_or_fault}
 use Rattle.script_words.specs.declared.fault.ScriptWord.{ScriptWord}
-use Rattle.audit_log.specs.Entries.{counted, entry_line, fields_of, kind_of, kind_text, kind_with, logged_of, place_of}
+use Rattle.audit_log.specs.Entries.{number_or_fault, entry_line, fields_of, kind_of, kind_text, kind_with, logged_of, place_of}
 use Rattle.audit_log.specs.Laws.{IsClient, IsEntry}
 use Rattle.audit_log.specs.Replies.{reply_of}
 use Rattle.audit_log.specs.declared.reading.KindWord.{KindWord}
@@ -47,7 +47,7 @@ below_back : (limit n : ℕ) → n < limit → n < 2 ^ 64 → below limit (numbe
 below_back limit n low small = ap (below limit) (number_back n small) ∙ ap (λ b. cond b (Ok n) (Err ScriptWord.BadNumber)) (lt-ltb n limit low)
 
 place_back : (place : ℕ) → place < 2 ^ 64 → place_of (35 ∷ decimal place) ≡ Ok place
-place_back place small = ap counted (number_back place small)
+place_back place small = ap number_or_fault (number_back place small)
 
 client_back : (c : Client) → IsClient c → client_of c.user c.host c.display c.project ≡ Ok c
 client_back c n =

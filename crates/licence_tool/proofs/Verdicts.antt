@@ -10,7 +10,7 @@ use Rattle.options_machine.specs.declared.reply.Entry.{Entry}
 use Rattle.options_machine.specs.declared.reply.Reply.{Reply}
 use Rattle.log_audit.specs.Audit.{ArePlaces, IsFirstBad, IsRunLog, IsRunOf, entry_of, is_of_pool, of_pool}
 use Rattle.log_audit.specs.declared.log.Numbered.{Numbered}
-use Rattle.outside.specs.Told.{TakesFront, told_with}
+use Rattle.outside.specs.Told.{TakesFront, held_after}
 use Rattle.licence_tool.specs.AuditText.{no_text}
 use Rattle.licence_tool.specs.Files.{Bytes}
 use Rattle.licence_tool.specs.Outcome.{Due, IsRefuted, IsTold, Text, Verdict}
@@ -97,7 +97,7 @@ refuted_at (Verdict report pools rules log) text other line at h k = one_bad rul
 -- The line of a log that is no run was written, or a front of it.
 
 pub no_written : (OutFailed : Type 0) (old new : Bytes) (report : LogReport) (pools : List Pool) (rules : List (List Rules)) (log : List Numbered) (line place moment : ℕ) (said : Reply)
-    → IsFirstBad rules log line place moment said → new ≡ told_with old (no_text line place moment said) → DueSays OutFailed old new (Verdict report pools rules log) (AuditNo line)
+    → IsFirstBad rules log line place moment said → new ≡ held_after old (no_text line place moment said) → DueSays OutFailed old new (Verdict report pools rules log) (AuditNo line)
 no_written OutFailed old new report pools rules log line place moment said first is =
     (no_text line place moment said, record { place = place; moment = moment; said = said; first = first; is = refl }, is)
 

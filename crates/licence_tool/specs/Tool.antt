@@ -2,7 +2,7 @@ use Rattle.std.specs.Prelude.{◌≡◌, ◌≢◌, ℕ, ◌⊎◌, true, List, 
 use Rattle.options_text.specs.Options.{OptionsFile}
 use Rattle.options_text.specs.declared.fault.OptionsFault.{OptionsFault}
 use Rattle.options_text.specs.declared.fault.OptionsFault.TheVariants.{NoMemory as TooLittle}
-use Rattle.outside.specs.Told.{TakesFront, told_with}
+use Rattle.outside.specs.Told.{TakesFront, held_after}
 use Rattle.feature_lines.specs.Licence.{Contents}
 use Rattle.script_text.specs.declared.line.ScriptLine.{ScriptLine}
 use Rattle.scripts.specs.Laws.{Histories}
@@ -33,11 +33,11 @@ IsSure told outcome = (readings : CommandOf Bytes) → AreOfCommand ⊥ told rea
 
 -- the whole of a text that comes of the files was written
 abbrev pub WritesAll : Type 0 → CommandOf Bytes → Bytes → Bytes → Type 0
-WritesAll Failed told old new = (due : Due) × (text : List ℕ) × Comes Failed told (Ok due) × IsTold due text × (new ≡ told_with old text)
+WritesAll Failed told old new = (due : Due) × (text : List ℕ) × Comes Failed told (Ok due) × IsTold due text × (new ≡ held_after old text)
 
 -- the whole of a text was written that tells that this line of the log is the first that shows that it is no run
 abbrev pub WritesNo : Type 0 → CommandOf Bytes → ℕ → Bytes → Bytes → Type 0
-WritesNo Failed told line old new = (due : Due) × (text : List ℕ) × Comes Failed told (Ok due) × IsRefuted due line text × (new ≡ told_with old text)
+WritesNo Failed told line old new = (due : Due) × (text : List ℕ) × Comes Failed told (Ok due) × IsRefuted due line text × (new ≡ held_after old text)
 
 -- this text is what is due, be the command done with it or not
 abbrev pub IsDue : Due → List ℕ → Type 0
@@ -89,7 +89,7 @@ status_of (Err status) = status
 
 -- what the writing of a text says: of what the sink held before and holds now, and of its count of faults
 abbrev pub WritingSays : Type 0 → Bytes → Bytes → List ℕ → Status → Type 0
-WritingSays Failed old new text Done = new ≡ told_with old text
+WritingSays Failed old new text Done = new ≡ held_after old text
 WritingSays Failed old new text WriteFault = Failed × TakesFront old new text
 WritingSays Failed old new text NoMemory = new ≡ old
 WritingSays Failed old new text Usage = ⊥
@@ -103,8 +103,8 @@ WritingSays Failed old new text (AuditNo line) = ⊥
 
 -- the same of what is due
 abbrev pub DueSays : Type 0 → Bytes → Bytes → Due → Status → Type 0
-DueSays Failed old new due Done = (text : List ℕ) × IsTold due text × (new ≡ told_with old text)
-DueSays Failed old new due (AuditNo line) = (text : List ℕ) × IsRefuted due line text × (new ≡ told_with old text)
+DueSays Failed old new due Done = (text : List ℕ) × IsTold due text × (new ≡ held_after old text)
+DueSays Failed old new due (AuditNo line) = (text : List ℕ) × IsRefuted due line text × (new ≡ held_after old text)
 DueSays Failed old new due WriteFault = Failed × ((text : List ℕ) × IsDue due text × TakesFront old new text)
 DueSays Failed old new due NoMemory = new ≡ old
 DueSays Failed old new due Usage = ⊥
@@ -140,7 +140,7 @@ pub record TellsHistories (kind : ScriptReport) (readings : RunFiles Bytes) (old
   pub script_is : script_heard readings.third ≡ Ok script
   pub sets_is : sets_heard (options ∷ []) readings.more ≡ Ok sets
   pub histories : Histories licence.pools sets script
-  pub written : new ≡ told_with old (script_told kind licence.pools sets script)
+  pub written : new ≡ held_after old (script_told kind licence.pools sets script)
 
 -- what a status says of the histories of a replay or a report, and that a trial's events are a run of its pool's rules
 abbrev pub HistoriesSay : CommandOf Bytes → Bytes → Bytes → Status → Type 0
@@ -173,4 +173,4 @@ pub record IsDone (Failed OutFailed : Type 0) (told : CommandOf Bytes) (old new 
 -- standard error gained just this line, or a front of it where its count of faults rose
 abbrev pub GainsLine : Bytes → Bytes → Type 0 → List ℕ → Type 0
 GainsLine old new Failed [] = new ≡ old
-GainsLine old new Failed (b ∷ line) = (new ≡ told_with old (b ∷ line)) ⊎ (Failed × TakesFront old new (b ∷ line))
+GainsLine old new Failed (b ∷ line) = (new ≡ held_after old (b ∷ line)) ⊎ (Failed × TakesFront old new (b ∷ line))

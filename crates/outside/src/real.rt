@@ -1,6 +1,6 @@
 ghost use Rattle.std.specs.Prelude.{◌≡◌, ◌≤◌, ◌<◌, ◌∷◌, ◌++◌, ℕ, Err, IfOk, IfSome, OnOk, OnErr, None, length, map, string_bytes, take, vec_len};
 ghost use Rattle.std.specs.Io.KnownBytes.{Appends};
-ghost use Rattle.outside.specs.Told.{AppendsFront, HasRisen, TakesFront, told_with};
+ghost use Rattle.outside.specs.Told.{AppendsFront, HasRisen, TakesFront, held_after};
 
 use crate::asked::Asked;
 use crate::files::{FileFault, Files};
@@ -122,7 +122,7 @@ impl<W: Write + Drop> Sink for RealSink<W> {
     ghost held = { λ s. None };
 
     fn write(&mut self, piece: &[u8]) -> Result<(), WriteFailed>
-        ensures ok { OnOk result (None ≡ told_with None piece.now) }
+        ensures ok { OnOk result (None ≡ held_after None piece.now) }
         ensures err { OnErr result (TakesFront None None piece.now) }
         ensures failed { OnErr result (HasRisen self.old.faults self.new.faults) }
         ensures steady { OnOk result (self.new.faults ≡ self.old.faults) }
