@@ -8,7 +8,7 @@ use Rattle.script_text.specs.declared.line.ScriptLine.{ScriptLine}
 use Rattle.scripts.specs.Laws.{Histories}
 use Rattle.licence_tool.specs.Command.{Audit, CommandOf, Check, Replay, RunFiles, Trial}
 use Rattle.licence_tool.specs.Files.{AreOfCommand, AreReadings, Bytes, IsReading, told_by}
-use Rattle.licence_tool.specs.Outcome.{Due, IsRefuted, IsTold, licence_heard, options_heard, outcome_of, script_heard, script_told, sets_heard}
+use Rattle.licence_tool.specs.Outcome.{Due, IsRefuted, IsTold, licence_heard, options_heard, outcome_of, script_heard, script_output, sets_heard}
 use Rattle.options_machine.specs.Run.{IsRun}
 use Rattle.trial_replay.specs.Replayed.{run_of}
 use Rattle.trial_replay.specs.Terms.{bench_sets}
@@ -140,7 +140,7 @@ pub record TellsHistories (kind : ScriptReport) (readings : RunFiles Bytes) (old
   pub script_is : script_heard readings.third ≡ Ok script
   pub sets_is : sets_heard (options ∷ []) readings.more ≡ Ok sets
   pub histories : Histories licence.pools sets script
-  pub written : new ≡ held_after old (script_told kind licence.pools sets script)
+  pub written : new ≡ held_after old (script_output kind licence.pools sets script)
 
 -- what a status says of the histories of a replay or a report, and that a trial's events are a run of its pool's rules
 abbrev pub HistoriesSay : CommandOf Bytes → Bytes → Bytes → Status → Type 0
