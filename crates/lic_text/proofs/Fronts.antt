@@ -1,6 +1,6 @@
 use Rattle.std.proofs.Common.{◌≡◌, ℕ, ◌+◌, Bool, true, false, not, List, [], ◌∷◌, ◌++◌, length, filter, map, None, Some, Ok, Err, refl, sym, ap, ◌∙◌, append_assoc, arith}
 use Rattle.std.proofs.lemmas.List.{append-nil}
-use Rattle.lic_text.specs.Physical.{is_empty, is_comment, is_continued, front_of}
+use Rattle.lic_text.specs.Physical.{is_empty, is_comment, is_continued, without_last}
 use Rattle.lic_text.specs.Lines.{Logical, logical_lines, fault_of, line_or_fault, tells, up_to_fault, words_of, lines_from}
 use Rattle.lic_text.specs.Front.{joined_text, has_no_end, line_count, lines_behind}
 use Rattle.lic_text.specs.declared.fault.TextFault.{TextFault}
@@ -24,9 +24,9 @@ open_step : (text : List ℕ) (texts : List (List ℕ)) (first : ℕ) (before : 
     ((more : List ℕ) (next : ℕ) → logical_lines texts (Some (line_of first more true)) next ≡ behind first more next texts) →
     logical_lines (text ∷ texts) (Some (line_of first before true)) number ≡ behind first before number (text ∷ texts)
 open_step text texts first before number true h hyp =
-    rw h (hyp (before ++ (front_of text ++ 32 ∷ [])) (number + 1)
-    ∙ same_lines first ((before ++ (front_of text ++ 32 ∷ [])) ++ joined_text texts) (before ++ (front_of text ++ 32 ∷ joined_text texts)) (has_no_end texts) (number + 1 + line_count texts) (number + (1 + line_count texts)) (lines_behind texts)
-    (append_assoc before (front_of text ++ 32 ∷ []) (joined_text texts) ∙ ap (λ (t : List ℕ). before ++ t) (append_assoc (front_of text) (32 ∷ []) (joined_text texts)))
+    rw h (hyp (before ++ (without_last text ++ 32 ∷ [])) (number + 1)
+    ∙ same_lines first ((before ++ (without_last text ++ 32 ∷ [])) ++ joined_text texts) (before ++ (without_last text ++ 32 ∷ joined_text texts)) (has_no_end texts) (number + 1 + line_count texts) (number + (1 + line_count texts)) (lines_behind texts)
+    (append_assoc before (without_last text ++ 32 ∷ []) (joined_text texts) ∙ ap (λ (t : List ℕ). before ++ t) (append_assoc (without_last text) (32 ∷ []) (joined_text texts)))
     (omega arith))
 open_step text texts first before number false h hyp = rw h refl
 

@@ -1,5 +1,5 @@
 use Rattle.std.proofs.Common.{◌≡◌, ◌<◌, ◌≤◌, ◌+◌, ℕ, Bool, true, false, if◌then◌else◌, List, [], ◌∷◌, ◌++◌, length, filter, map, Option, None, Some, Result, Ok, Err, refl, sym, subst, nat_lt, arith}
-use Rattle.lic_text.specs.Physical.{is_comment, is_continued, front_of, physical_lines}
+use Rattle.lic_text.specs.Physical.{is_comment, is_continued, without_last, physical_lines}
 use Rattle.lic_text.specs.Lines.{Logical, new_line, with_text, with_line, ended_lines, still_open, logical_lines, words_of, unless_fault, line_or_fault, tells, up_to_fault, lines_from, lines_of, Worded, number_at, RisesAbove}
 use Rattle.lic_text.specs.declared.fault.TextFault.{TextFault}
 use Rattle.lic_text.specs.declared.fault.TextFault.TheVariants.{LineTooLong, OpenContinuation}
@@ -21,11 +21,11 @@ begins_with None low number text h =
     let P : Option Logical → Type 0 = λ line. Begins low line (number + 1) in
     let Q : Logical → Type 0 = λ line. (low < line.first) × (line.first < number + 1) in
     of_either P (is_comment text) None (Some (with_text (new_line number) text)) (omega arith)
-    (of_either Q (is_continued text) (record { first = number; text = [] ++ (front_of text ++ 32 ∷ []); is_open = true }) (record { first = number; text = [] ++ text; is_open = false }) (h, omega arith) (h, omega arith))
+    (of_either Q (is_continued text) (record { first = number; text = [] ++ (without_last text ++ 32 ∷ []); is_open = true }) (record { first = number; text = [] ++ text; is_open = false }) (h, omega arith) (h, omega arith))
 begins_with (Some line) low number text h =
     let Q : Logical → Type 0 = λ line. (low < line.first) × (line.first < number + 1) in
     let later : line.first < number + 1 = omega (arith, h.1) in
-    of_either Q (is_continued text) (record { first = line.first; text = line.text ++ (front_of text ++ 32 ∷ []); is_open = true }) (record { first = line.first; text = line.text ++ text; is_open = false }) (h.0, later) (h.0, later)
+    of_either Q (is_continued text) (record { first = line.first; text = line.text ++ (without_last text ++ 32 ∷ []); is_open = true }) (record { first = line.first; text = line.text ++ text; is_open = false }) (h.0, later) (h.0, later)
 
 rise_some : (first : ℕ) (text : List ℕ) (is_open : Bool) (texts : List (List ℕ)) (low number : ℕ) → Begins low (Some (line_of first text is_open)) number →
     ((open_line : Option Logical) (from : ℕ) → Begins from open_line number → LinesRise from (logical_lines texts open_line number)) →

@@ -1,6 +1,6 @@
 use Rattle.std.proofs.Common.{◌≡◌, ◌==◌, ℕ, zero, suc, ◌+◌, ◌-◌, if◌then◌else◌, Bool, true, false, not, List, [], ◌∷◌, ◌++◌, length, take, filter, map, Option, None, Some, Result, Ok, Err, refl}
 use Rattle.std.specs.List.{slice_split, onto_first, AllByRecursion}
-use Rattle.lic_text.specs.Physical.{is_blank, is_empty, front_of, ends_in, without_return, without_empty_end, physical_lines, is_comment, is_continued}
+use Rattle.lic_text.specs.Physical.{is_blank, is_empty, without_last, ends_in, without_return, without_empty_end, physical_lines, is_comment, is_continued}
 use Rattle.lic_text.specs.Lines.{Logical, new_line, with_text, with_line, ended_lines, still_open, logical_lines, words_of, fault_of, unless_fault, line_or_fault, tells, up_to_fault, lines_from, lines_of, Worded, IsWordByte, IsWord, HasWords}
 use Rattle.lic_text.specs.declared.fault.TextFault.{TextFault}
 
@@ -62,7 +62,7 @@ no_feeds : (file : List ℕ) → AllByRecursion NoFeed (physical_lines file)
 unfolding physical_lines
 no_feeds file =
     all-map NoFeed NoFeed without_return (without_empty_end (slice_split (λ b. b == 10) file))
-    (λ text h. of_either NoFeed (ends_in 13 text) (front_of text) text (all-take (λ b. (b == 10) ≡ false) (length text - 1) text h) h)
+    (λ text h. of_either NoFeed (ends_in 13 text) (without_last text) text (all-take (λ b. (b == 10) ≡ false) (length text - 1) text h) h)
     (all-end NoFeed (slice_split (λ b. b == 10) file) (parts_are (λ _. Unit {0}) (λ b. (b == 10) ≡ false) (λ b. b == 10) file (λ x q h. h) (all_of file)))
 
 -- no LF in a logical line, where there is one
@@ -75,8 +75,8 @@ NoFeedIf (Some line) = NoFeedIn line
 
 no_feed_joined : (line : Logical) (text : List ℕ) → NoFeedIn line → NoFeed text → NoFeedIn (with_text line text)
 no_feed_joined line text h g =
-    of_either NoFeedIn (is_continued text) (record { first = line.first; text = line.text ++ (front_of text ++ 32 ∷ []); is_open = true }) (record { first = line.first; text = line.text ++ text; is_open = false })
-    (all-append (λ b. (b == 10) ≡ false) line.text (front_of text ++ 32 ∷ []) h (all-append (λ b. (b == 10) ≡ false) (front_of text) (32 ∷ []) (all-take (λ b. (b == 10) ≡ false) (length text - 1) text g) (refl, tt)))
+    of_either NoFeedIn (is_continued text) (record { first = line.first; text = line.text ++ (without_last text ++ 32 ∷ []); is_open = true }) (record { first = line.first; text = line.text ++ text; is_open = false })
+    (all-append (λ b. (b == 10) ≡ false) line.text (without_last text ++ 32 ∷ []) h (all-append (λ b. (b == 10) ≡ false) (without_last text) (32 ∷ []) (all-take (λ b. (b == 10) ≡ false) (length text - 1) text g) (refl, tt)))
     (all-append (λ b. (b == 10) ≡ false) line.text text h g)
 
 no_feed_with : (open_line : Option Logical) (number : ℕ) (text : List ℕ) → NoFeedIf open_line → NoFeed text → NoFeedIf (with_line open_line number text)

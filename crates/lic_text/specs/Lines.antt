@@ -1,7 +1,7 @@
 use Rattle.std.specs.Prelude.{◌≡◌, ◌<◌, ◌==◌, ℕ, ◌+◌, Bool, true, false, ◌&&◌, not, nat_lt, if◌then◌else◌, List, [], ◌∷◌, ◌++◌, length, filter, map, Option, None, Some, is_none, unwrap_or, Result, Ok, Err}
 use Rattle.std.specs.List.{slice_split, AllByRecursion}
 use Rattle.std.specs.Option.{option_to_list}
-use Rattle.lic_text.specs.Physical.{is_blank, is_empty, physical_lines, is_comment, is_continued, front_of}
+use Rattle.lic_text.specs.Physical.{is_blank, is_empty, physical_lines, is_comment, is_continued, without_last}
 use Rattle.lic_text.specs.declared.fault.TextFault.{TextFault}
 use Rattle.lic_text.specs.declared.fault.TextFault.TheVariants.{LineTooLong, OpenContinuation}
 
@@ -19,7 +19,7 @@ new_line number = record { first = number; text = []; is_open = true }
 abbrev pub with_text : Logical → List ℕ → Logical
 with_text line text =
     if is_continued text
-    then record { first = line.first; text = line.text ++ (front_of text ++ 32 ∷ []); is_open = true }
+    then record { first = line.first; text = line.text ++ (without_last text ++ 32 ∷ []); is_open = true }
     else record { first = line.first; text = line.text ++ text; is_open = false }
 
 -- the logical line to which a physical line belongs, as far as that; a comment belongs to none, and continues none

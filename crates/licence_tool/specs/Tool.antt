@@ -2,7 +2,7 @@ use Rattle.std.specs.Prelude.{◌≡◌, ◌≢◌, ℕ, ◌⊎◌, true, List, 
 use Rattle.options_text.specs.Options.{OptionsFile}
 use Rattle.options_text.specs.declared.fault.OptionsFault.{OptionsFault}
 use Rattle.options_text.specs.declared.fault.OptionsFault.TheVariants.{NoMemory as TooLittle}
-use Rattle.outside.specs.Told.{TakesFront, held_after}
+use Rattle.outside.specs.Told.{TakesPrefix, held_after}
 use Rattle.feature_lines.specs.Licence.{Contents}
 use Rattle.script_text.specs.declared.line.ScriptLine.{ScriptLine}
 use Rattle.scripts.specs.Laws.{Histories}
@@ -43,9 +43,9 @@ WritesNo Failed told line old new = (due : Due) × (text : List ℕ) × Comes Fa
 abbrev pub IsDue : Due → List ℕ → Type 0
 IsDue due text = IsTold due text ⊎ ((line : ℕ) × IsRefuted due line text)
 
--- a front of such a text was written
-abbrev pub WritesFront : Type 0 → CommandOf Bytes → Bytes → Bytes → Type 0
-WritesFront Failed told old new = (due : Due) × (text : List ℕ) × Comes Failed told (Ok due) × IsDue due text × TakesFront old new text
+-- a prefix of such a text was written
+abbrev pub WritesPrefix : Type 0 → CommandOf Bytes → Bytes → Bytes → Type 0
+WritesPrefix Failed told old new = (due : Due) × (text : List ℕ) × Comes Failed told (Ok due) × IsDue due text × TakesPrefix old new text
 
 -- what a status says of an answer: want of memory nothing, and one of a file that it is the answer; a read fault comes only where a reading failed
 abbrev pub RefusalSays : {Y : Type 0} → Type 0 → Result Y Status → Status → Type 0
@@ -90,7 +90,7 @@ status_of (Err status) = status
 -- what the writing of a text says: of what the sink held before and holds now, and of its count of faults
 abbrev pub WritingSays : Type 0 → Bytes → Bytes → List ℕ → Status → Type 0
 WritingSays Failed old new text Done = new ≡ held_after old text
-WritingSays Failed old new text WriteFault = Failed × TakesFront old new text
+WritingSays Failed old new text WriteFault = Failed × TakesPrefix old new text
 WritingSays Failed old new text NoMemory = new ≡ old
 WritingSays Failed old new text Usage = ⊥
 WritingSays Failed old new text (Licence fault) = ⊥
@@ -105,7 +105,7 @@ WritingSays Failed old new text (AuditNo line) = ⊥
 abbrev pub DueSays : Type 0 → Bytes → Bytes → Due → Status → Type 0
 DueSays Failed old new due Done = (text : List ℕ) × IsTold due text × (new ≡ held_after old text)
 DueSays Failed old new due (AuditNo line) = (text : List ℕ) × IsRefuted due line text × (new ≡ held_after old text)
-DueSays Failed old new due WriteFault = Failed × ((text : List ℕ) × IsDue due text × TakesFront old new text)
+DueSays Failed old new due WriteFault = Failed × ((text : List ℕ) × IsDue due text × TakesPrefix old new text)
 DueSays Failed old new due NoMemory = new ≡ old
 DueSays Failed old new due Usage = ⊥
 DueSays Failed old new due (Licence fault) = ⊥
@@ -170,7 +170,7 @@ pub record IsDone (Failed OutFailed : Type 0) (told : CommandOf Bytes) (old new 
   pub says : EndSays Failed OutFailed old new (outcome_of readings) status
   pub histories : HistoriesSay readings old new status
 
--- standard error gained just this line, or a front of it where its count of faults rose
+-- standard error gained just this line, or a prefix of it where its count of faults rose
 abbrev pub GainsLine : Bytes → Bytes → Type 0 → List ℕ → Type 0
 GainsLine old new Failed [] = new ≡ old
-GainsLine old new Failed (b ∷ line) = (new ≡ held_after old (b ∷ line)) ⊎ (Failed × TakesFront old new (b ∷ line))
+GainsLine old new Failed (b ∷ line) = (new ≡ held_after old (b ∷ line)) ⊎ (Failed × TakesPrefix old new (b ∷ line))

@@ -122,7 +122,7 @@ pub fn put_status(room: &mut [u8; ROOM], third: Third, status: &Status) -> usize
     }
 }
 
-/// Writes a line to standard error, unless it is empty. A write that fails is told to nobody; a front of the line was written
+/// Writes a line to standard error, unless it is empty. A write that fails is told to nobody; a prefix of the line was written
 /// then.
 pub fn write_line<E: Sink>(err: &mut E, line: &[u8])
     ensures { GainsLine (E.held err.old) (E.held err.new) (HasRisen (E.faults err.old) (E.faults err.new)) line.now }

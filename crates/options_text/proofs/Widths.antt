@@ -1,7 +1,7 @@
 use Rattle.std.proofs.Common.{◌≡◌, ℕ, ◌+◌, ◌≤◌, Bool, true, false, not, cond, ltb, List, [], ◌∷◌, ◌++◌, length, filter, map, Option, None, Some, Result, Ok, Err, refl, sym, ap, subst, ◌∙◌, arith}
 use Rattle.std.proofs.lemmas.Bool.{ltb-false}
 use Rattle.std.specs.List.{slice_split, onto_first, AllByRecursion}
-use Rattle.lic_text.specs.Physical.{is_blank, is_comment, is_continued, is_empty, front_of, physical_lines}
+use Rattle.lic_text.specs.Physical.{is_blank, is_comment, is_continued, is_empty, without_last, physical_lines}
 use Rattle.lic_text.specs.Lines.{Logical, Worded, ended_lines, line_or_fault, with_text, lines_from, lines_of, logical_lines, new_line, still_open, tells, unless_fault, up_to_fault, with_line, words_of}
 use Rattle.lic_text.specs.declared.fault.TextFault.{TextFault}
 use Rattle.lic_text.specs.declared.fault.TextFault.TheVariants.{LineTooLong, OpenContinuation}
@@ -31,8 +31,8 @@ ends_both (x ∷ []) [] h g = h
 ends_both (x ∷ []) (y ∷ ys) h g = ends_step 92 x y ys ∙ g
 ends_both (x ∷ y ∷ ys) b h g = ends_step 92 x y (ys ++ b) ∙ ends_both (y ∷ ys) b (sym (ends_step 92 x y ys) ∙ h) g
 
-joined_by : (line : Logical) (text : List ℕ) (b : Bool) → is_continued text ≡ b → EndsWell line → EndsWell (cond b (record { first = line.first; text = line.text ++ (front_of text ++ 32 ∷ []); is_open = true }) (record { first = line.first; text = line.text ++ text; is_open = false }))
-joined_by line text true e h = ends_both line.text (front_of text ++ 32 ∷ []) h (continued_behind (front_of text) [])
+joined_by : (line : Logical) (text : List ℕ) (b : Bool) → is_continued text ≡ b → EndsWell line → EndsWell (cond b (record { first = line.first; text = line.text ++ (without_last text ++ 32 ∷ []); is_open = true }) (record { first = line.first; text = line.text ++ text; is_open = false }))
+joined_by line text true e h = ends_both line.text (without_last text ++ 32 ∷ []) h (continued_behind (without_last text) [])
 joined_by line text false e h = ends_both line.text text h e
 
 ends_joined : (line : Logical) (text : List ℕ) → EndsWell line → EndsWell (with_text line text)
