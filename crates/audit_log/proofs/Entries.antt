@@ -12,9 +12,9 @@ use Rattle.options_machine.specs.declared.reply.Kind.TheVariants as kind
 use Rattle.options_machine.specs.declared.reply.Reply.{Reply}
 use Rattle.options_machine.specs.declared.reply.Reply.TheVariants as reply
 use Rattle.reply_words.specs.Words.{reply_text}
-use Rattle.script_words.specs.Fields.{below, client_of, named}
+use Rattle.script_words.specs.Fields.{below, client_of, name_or_fault}
 use Rattle.script_words.specs.declared.fault.ScriptWord.{ScriptWord}
-use Rattle.audit_log.specs.Entries.{counted, entry_line, fields_of, kind_of, kind_text, kind_with, logged_of, place_of}
+use Rattle.audit_log.specs.Entries.{number_or_fault, entry_line, fields_of, kind_of, kind_text, kind_with, logged_of, place_of}
 use Rattle.audit_log.specs.Laws.{IsClient, IsEntry}
 use Rattle.audit_log.specs.Replies.{reply_of}
 use Rattle.audit_log.specs.declared.reading.KindWord.{KindWord}
@@ -38,8 +38,8 @@ some_byte : (name : List ℕ) → IsName name → IsToken name
 some_byte [] n = absurd (let low = n.some in omega arith)
 some_byte (b ∷ bs) n = record { some = refl; each = n.each }
 
-named_back : (name : List ℕ) → IsName name → named (name_of name) ≡ Ok name
-named_back name n = ap named (name_back name n)
+named_back : (name : List ℕ) → IsName name → name_or_fault (name_of name) ≡ Ok name
+named_back name n = ap name_or_fault (name_back name n)
 
 -- One field after another.
 
@@ -47,14 +47,14 @@ below_back : (limit n : ℕ) → n < limit → n < 2 ^ 64 → below limit (numbe
 below_back limit n low small = ap (below limit) (number_back n small) ∙ ap (λ b. cond b (Ok n) (Err ScriptWord.BadNumber)) (lt-ltb n limit low)
 
 place_back : (place : ℕ) → place < 2 ^ 64 → place_of (35 ∷ decimal place) ≡ Ok place
-place_back place small = ap counted (number_back place small)
+place_back place small = ap number_or_fault (number_back place small)
 
 client_back : (c : Client) → IsClient c → client_of c.user c.host c.display c.project ≡ Ok c
 client_back c n =
-    then_ok (named (name_of c.user)) _ c.user _ (named_back c.user n.user)
-    (then_ok (named (name_of c.host)) _ c.host _ (named_back c.host n.host)
-    (then_ok (named (name_of c.display)) _ c.display _ (named_back c.display n.display)
-    (then_ok (named (name_of c.project)) _ c.project _ (named_back c.project n.project) refl)))
+    then_ok (name_or_fault (name_of c.user)) _ c.user _ (named_back c.user n.user)
+    (then_ok (name_or_fault (name_of c.host)) _ c.host _ (named_back c.host n.host)
+    (then_ok (name_or_fault (name_of c.display)) _ c.display _ (named_back c.display n.display)
+    (then_ok (name_or_fault (name_of c.project)) _ c.project _ (named_back c.project n.project) refl)))
 
 -- what the word of a kind says
 abbrev kind_said : Kind → KindWord

@@ -7,7 +7,7 @@ use Rattle.crossbeam_queue.specs.Fifo.{Pushes, Pops, Forks, Held, Merges, Learns
 use Rattle.crossbeam_queue.proofs.Lists.{at_set, at_snoc}
 use Rattle.options_machine.specs.declared.reply.Entry.{Entry}
 use Rattle.audit_log.specs.declared.ends.Knows.{Knows}
-use Rattle.audit_log.specs.Rule.{Fits, HoldsNoMore, HoldsRest, IsInOrder, Pushed, Taken, TakenNext, knows, pusher_of, spent, taker_of, together}
+use Rattle.audit_log.specs.Rule.{Fits, HoldsNoMore, HoldsRest, IsInOrder, Pushed, Taken, TakenNext, knows, pusher_of, knows_nothing, taker_of, together}
 use Rattle.audit_log.specs.declared.queue.TheConstants.{ENTRY_LIMIT}
 
 at_end : (views : List Knows) (a b : Knows) (j : ℕ) → get_elem? views j ≢ some b → get_elem? (views ++ a ∷ []) j ≡ some b → j ≡ length views
@@ -97,7 +97,7 @@ forks end v a b items views h at = let l : Knows = taker_of v in let r : Knows =
           (at_snoc vs r u j e);
     }
 
-pub merges : (end : ℕ) (v : Knows) (other : ℕ) (u : Knows) → v.takes ≡ true → u.pushes ≡ true → Merges IsInOrder end v other u (together v u) spent
+pub merges : (end : ℕ) (v : Knows) (other : ℕ) (u : Knows) → v.takes ≡ true → u.pushes ≡ true → Merges IsInOrder end v other u (together v u) knows_nothing
 merges end v other u a b items views h at two at' = let both : Knows = together v u in let mine = h.ends end v at in let vs : List Knows = set views end both in
     let was : get_elem? views other ≡ some u = ⊎_elim (λ x. absurd (two x.0)) (λ x. x.1) (at_set views end other both u at') in let theirs = (h.ends other u was).pushes b in
     let Now : ℕ → Knows → Type 0 = λ j y. j ≢ other → Fits end h.taker h.pushed h.taken j y in
@@ -110,7 +110,7 @@ merges end v other u a b items views h at two at' = let both : Knows = together 
       taken = h.taken;
       order = h.order;
       few = h.few;
-      ends = all_set (Fits end h.taker h.pushed h.taken) vs other spent
+      ends = all_set (Fits end h.taker h.pushed h.taken) vs other knows_nothing
           (record { pushes = λ p. absurd (true≢false (sym p)); takes = λ p. absurd (true≢false (sym p)) }) (λ j y apart e. now j y e apart);
     }
 

@@ -79,14 +79,14 @@ kind_with Anew (reply.Queued position) = Err UnknownWord
 kind_with Anew reply.Unqueued = Err UnknownWord
 
 -- a number
-abbrev pub counted : Option ℕ → Result ℕ ScriptWord
-counted None = Err BadNumber
-counted (Some n) = Ok n
+abbrev pub number_or_fault : Option ℕ → Result ℕ ScriptWord
+number_or_fault None = Err BadNumber
+number_or_fault (Some n) = Ok n
 
 -- the place that a word is: a number behind a #
 abbrev pub place_of : List ℕ → Result ℕ ScriptWord
 place_of [] = Err BadNumber
-place_of (b ∷ digits) = if b == 35 then counted (number_of digits) else Err BadNumber
+place_of (b ∷ digits) = if b == 35 then number_or_fault (number_of digits) else Err BadNumber
 
 -- the entry that the words behind ENTRY spell
 abbrev pub fields_of : List (List ℕ) → Result Logged ScriptWord

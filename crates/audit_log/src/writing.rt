@@ -11,7 +11,7 @@ use reply_words::{put, put_number, put_reply};
 fn put_name(room: &mut [u8], at: usize, name: &Name) -> usize
     requires { at + 65 ≤ length room.old }
     ensures room { length room.new ≡ length room.old }
-    ensures place { result ≤ at + 65 }
+    ensures offset { result ≤ at + 65 }
     ensures written { take result room.new ≡ take at room.old ++ 32 ∷ name.now }
 {
     let at = put(room, at, b" ");
@@ -21,7 +21,7 @@ fn put_name(room: &mut [u8], at: usize, name: &Name) -> usize
 fn put_kind(room: &mut [u8], at: usize, kind: &Kind) -> usize
     requires { at + 8 ≤ length room.old }
     ensures room { length room.new ≡ length room.old }
-    ensures place { result ≤ at + 8 }
+    ensures offset { result ≤ at + 8 }
     ensures written { take result room.new ≡ take at room.old ++ kind_text kind.now }
 {
     match kind {
@@ -40,7 +40,7 @@ fn put_kind(room: &mut [u8], at: usize, kind: &Kind) -> usize
 /// most. The place is the number of entries of the pool before it. The bytes of the room behind the line are left open.
 /// `read_entry` tells the form, which is this project's own.
 pub fn write_entry(pool: u32, place: u64, entry: &Entry, room: &mut [u8; 640]) -> usize
-    ensures place { result ≤ 640 }
+    ensures offset { result ≤ 640 }
     ensures written { take result room.new ≡ entry_text pool place entry.now }
 {
     let client = &entry.request.client;
@@ -67,7 +67,7 @@ pub fn write_entry(pool: u32, place: u64, entry: &Entry, room: &mut [u8; 640]) -
 /// entries than the log keeps. It stands at the start of the room, its LF with it, and takes so many bytes, 640 at most. The
 /// form is this project's own.
 pub fn write_log(pool: u32, entries: u64, cut: bool, room: &mut [u8; 640]) -> usize
-    ensures place { result ≤ 640 }
+    ensures offset { result ≤ 640 }
     ensures written { take result room.new ≡ log_text pool entries cut }
 {
     let at = put(room, 0, b"LOG ");
@@ -84,7 +84,7 @@ pub fn write_log(pool: u32, entries: u64, cut: bool, room: &mut [u8; 640]) -> us
 /// Writes the line of a pool's tally: `TALLY pool CALLS calls GRANTS grants CARD USES uses`. It stands at the start of the
 /// room, its LF with it, and takes so many bytes, 640 at most. The form is this project's own.
 pub fn write_tally(pool: u32, calls: u64, grants: u64, uses: u64, room: &mut [u8; 640]) -> usize
-    ensures place { result ≤ 640 }
+    ensures offset { result ≤ 640 }
     ensures written { take result room.new ≡ tally_text pool calls grants uses }
 {
     let at = put(room, 0, b"TALLY ");

@@ -23,17 +23,17 @@ unless_fault word (Ok name) = Ok tt
 unless_fault word (Err fault) = Err (BadWord (record { word = word; fault = fault }))
 
 -- whether a word of a HELLO is a name
-abbrev pub named : ClientWord → List ℕ → Result (Unit {0}) Cause
-named word text = unless_fault word (name_of text)
+abbrev pub name_verdict : ClientWord → List ℕ → Result (Unit {0}) Cause
+name_verdict word text = unless_fault word (name_of text)
 
 -- whether the words that say who asks are names, in their order
-abbrev pub client_judged : Client → Result (Unit {0}) Cause
-client_judged c = then (named User c.user.now) (then (named Host c.host.now) (then (named Display c.display.now) (named Project c.project.now)))
+abbrev pub client_verdict : Client → Result (Unit {0}) Cause
+client_verdict c = then (name_verdict User c.user.now) (then (name_verdict Host c.host.now) (then (name_verdict Display c.display.now) (name_verdict Project c.project.now)))
 
 -- whether lines may be sent, in their order
-abbrev pub lines_judged : List (List ℕ) → Result (Unit {0}) Cause
-lines_judged [] = Ok tt
-lines_judged (line ∷ lines) = then (line_judged line) (lines_judged lines)
+abbrev pub lines_verdict : List (List ℕ) → Result (Unit {0}) Cause
+lines_verdict [] = Ok tt
+lines_verdict (line ∷ lines) = then (line_judged line) (lines_verdict lines)
 
 -- the lines of an errand behind the HELLO; those of a seat that is held come once here
 abbrev pub lines_of : Errand → List (List ℕ)
@@ -44,12 +44,12 @@ lines_of (errand.Reread number) = reread_line number.now ∷ []
 lines_of errand.Shutdown = shutdown_line ∷ []
 
 -- whether the words of an errand will do: who asks, which SHUTDOWN doesn't say, and then the lines
-abbrev pub judged : Errand → Client → Result (Unit {0}) Cause
-judged (errand.Ask words) client = then (client_judged client) (lines_judged (lines_of (errand.Ask words)))
-judged (errand.Status features) client = then (client_judged client) (lines_judged (lines_of (errand.Status features)))
-judged (errand.Hold hold) client = then (client_judged client) (lines_judged (lines_of (errand.Hold hold)))
-judged (errand.Reread number) client = then (client_judged client) (lines_judged (lines_of (errand.Reread number)))
-judged errand.Shutdown client = lines_judged (lines_of errand.Shutdown)
+abbrev pub errand_verdict : Errand → Client → Result (Unit {0}) Cause
+errand_verdict (errand.Ask words) client = then (client_verdict client) (lines_verdict (lines_of (errand.Ask words)))
+errand_verdict (errand.Status features) client = then (client_verdict client) (lines_verdict (lines_of (errand.Status features)))
+errand_verdict (errand.Hold hold) client = then (client_verdict client) (lines_verdict (lines_of (errand.Hold hold)))
+errand_verdict (errand.Reread number) client = then (client_verdict client) (lines_verdict (lines_of (errand.Reread number)))
+errand_verdict errand.Shutdown client = lines_verdict (lines_of errand.Shutdown)
 
 -- this is what is judged, or memory ran out before
 abbrev pub Judges : Result (Unit {0}) Cause → Result (Unit {0}) Cause → Type 0

@@ -41,7 +41,7 @@ Why line (BadWord bad) events = ⊥
 Why line NoMemory events = Unit {0}
 Why line WriteFault events = ⊥
 
--- a talk stopped at a line for this cause; at most a front of the line was written
+-- a talk stopped at a line for this cause; at most a prefix of the line was written
 pub record Halts {X : Type 0} (tells : X → List Event → Type 0) (old new : X) (line : List ℕ) (cause : Cause) : Type 0 where
   pub events : List Event
   pub told : Follows tells old new events

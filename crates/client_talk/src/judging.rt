@@ -1,7 +1,7 @@
 //! The words of an errand, judged before anything is said.
 ghost use Rattle.std.specs.Prelude.{◌≡◌, ℕ, List, map};
 ghost use Rattle.client_talk.specs.Holding.{hold_lines};
-ghost use Rattle.client_talk.specs.Judging.{Judges, client_judged, judged, lines_judged, lines_of, named};
+ghost use Rattle.client_talk.specs.Judging.{Judges, client_verdict, errand_verdict, lines_verdict, lines_of, name_verdict};
 ghost use Rattle.client_talk.specs.Requests.{Makes, line_judged};
 ghost use Rattle.client_talk.specs.Talks.{glance_line};
 ghost use Rattle.client_talk.specs.declared.want.Want.{Want};
@@ -17,7 +17,7 @@ use std::alloc::Global;
 
 /// Whether a word of a HELLO is a name.
 fn judge_word(word: ClientWord, text: &str) -> Result<(), Cause>
-    ensures { result ≡ named word text.now }
+    ensures { result ≡ name_verdict word text.now }
 {
     match Name::read(text.as_bytes()) {
         Ok(_) => Ok(()),
@@ -27,7 +27,7 @@ fn judge_word(word: ClientWord, text: &str) -> Result<(), Cause>
 
 /// Whether all words that say who asks are names.
 fn judge_client(client: &Client<'_>) -> Result<(), Cause>
-    ensures { result ≡ client_judged client.now }
+    ensures { result ≡ client_verdict client.now }
 {
     judge_word(ClientWord::User, client.user)?;
     judge_word(ClientWord::Host, client.host)?;
@@ -47,7 +47,7 @@ fn judge_made(made: Result<Request, Cause>) -> Result<(), Cause>
 
 /// Whether the requests for the desks of these features can be made.
 fn judge_features(alloc: Global, features: &[&str]) -> Result<(), Cause>
-    ensures { Judges (lines_judged (map glance_line (map (λ feature. feature.now) features.now))) result }
+    ensures { Judges (lines_verdict (map glance_line (map (λ feature. feature.now) features.now))) result }
 {
     for feature in features {
         judge_made(Request::glance(alloc, feature))?;
@@ -57,7 +57,7 @@ fn judge_features(alloc: Global, features: &[&str]) -> Result<(), Cause>
 
 /// Whether the requests of a seat that is held can be made.
 fn judge_hold(alloc: Global, hold: &Hold<'_>) -> Result<(), Cause>
-    ensures { Judges (lines_judged (hold_lines hold.now)) result }
+    ensures { Judges (lines_verdict (hold_lines hold.now)) result }
 {
     judge_made(Request::seat(alloc, hold))?;
     judge_made(Request::beat(alloc, hold.feature, Want::Beaten))?;
@@ -66,7 +66,7 @@ fn judge_hold(alloc: Global, hold: &Hold<'_>) -> Result<(), Cause>
 
 /// Whether the requests of an errand can be made.
 fn judge_lines(alloc: Global, errand: &Errand<'_>) -> Result<(), Cause>
-    ensures { Judges (lines_judged (lines_of errand.now)) result }
+    ensures { Judges (lines_verdict (lines_of errand.now)) result }
 {
     match *errand {
         Errand::Ask(words) => judge_made(Request::make(alloc, words, Want::Answer)),
@@ -81,7 +81,7 @@ fn judge_lines(alloc: Global, errand: &Errand<'_>) -> Result<(), Cause>
 /// such word; `TooLong` and `NoRequest` exactly where these are names, or none is wanted, and a line of the errand has more
 /// than 1,024 bytes or is no request of the protocol, of the first such line; and `NoMemory` where memory ran out.
 pub fn judge(alloc: Global, errand: &Errand<'_>, client: &Client<'_>) -> Result<(), Cause>
-    ensures { Judges (judged errand.now client.now) result }
+    ensures { Judges (errand_verdict errand.now client.now) result }
 {
     if matches!(errand, Errand::Shutdown) {
         return Ok(());

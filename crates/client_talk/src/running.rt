@@ -28,7 +28,7 @@ pub enum Errand<'a> {
 }
 
 /// Does an errand and prints what comes of it. Where it isn't done the cause is given, and nothing of the reply at which it
-/// stopped was printed; on `WriteFault` a front of what was to be printed may have been.
+/// stopped was printed; on `WriteFault` a prefix of what was to be printed may have been.
 pub fn run<L: Link, K: Clock, B: Bell, O: Sink>(
     alloc: Global,
     errand: &Errand<'_>,

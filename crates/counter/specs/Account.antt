@@ -8,7 +8,7 @@ use Rattle.options_machine.specs.Own.{holds, own, queues}
 pub use Rattle.options_machine.specs.Own.{brings_seat}
 use Rattle.options_machine.specs.Rules.{Rules}
 use Rattle.options_machine.specs.Run.{IsRun, after}
-use Rattle.options_machine.specs.Settle.{moved}
+use Rattle.options_machine.specs.Settle.{later_moment}
 use Rattle.counter.specs.declared.counter.Asked.{Asked}
 use Rattle.counter.specs.declared.glance.Glance.{Glance}
 use Rattle.counter.specs.Glances.{glance_of}
@@ -68,7 +68,7 @@ pub record Enters (old new : Account) (what : Kind) (who : Client) (at : ℕ) (a
   pub client : e.request.client ≡ who
   pub kind : e.request.kind ≡ what
   -- the moment is that to which settling brings the state before it
-  pub moment : e.moment ≡ moved (after old.sets before).now at
+  pub moment : e.moment ≡ later_moment (after old.sets before).now at
   -- what is told of it
   pub reply : answer.reply ≡ e.reply
   pub told : answer.moment ≡ e.moment

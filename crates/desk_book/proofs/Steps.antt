@@ -9,7 +9,7 @@ use Rattle.options_machine.specs.declared.reply.Reply.{Reply}
 use Rattle.options_machine.specs.Own.{brings_seat}
 use Rattle.options_machine.specs.Rules.{Rules}
 use Rattle.options_machine.specs.Run.{AsksForSet, IsRun, after}
-use Rattle.options_machine.specs.Settle.{moved}
+use Rattle.options_machine.specs.Settle.{later_moment}
 use Rattle.options_machine.specs.State.{State, opening}
 use Rattle.options_machine.specs.Step.{step}
 use Rattle.options_machine.proofs.Counts.{count-cons}
@@ -33,7 +33,7 @@ grants_longer (x ∷ xs) e =
 -- a step at some state
 module _ (sets : List Rules) (s : State) (e : Entry) (moment : ℕ) (new : State) (small : s.now < 2 ^ 40) (stepped : (e.reply, new) ≡ step sets s e.request moment) (used_is : e.moment ≡ new.now) where
   -- uses the moment to which settling brings that state
-  pub used_moved : e.moment ≡ moved s.now moment
+  pub used_moved : e.moment ≡ later_moment s.now moment
   used_moved = used_is ∙ (ap (λ (z : Reply × State). z.1.now) stepped ∙ step_now sets s e.request moment)
 
   again : step sets s e.request e.moment ≡ (e.reply, new)
@@ -57,8 +57,8 @@ module _ (sets : List Rules) (s : State) (e : Entry) (moment : ℕ) (new : State
 
 -- the moment that is used after these calls
 pub used_moment : (sets : List Rules) (s : State) (e : Entry) (moment : ℕ) (new : State) → s.now < 2 ^ 40 → (e.reply, new) ≡ step sets s e.request moment → e.moment ≡ new.now → (h : List Call) → s ≡ after sets (entries_of h)
-    → e.moment ≡ moved (after sets (entries_of h)).now moment
-used_moment sets s e moment new small stepped used_is h reached = used_moved sets s e moment new small stepped used_is ∙ ap (λ (t : State). moved t.now moment) reached
+    → e.moment ≡ later_moment (after sets (entries_of h)).now moment
+used_moment sets s e moment new small stepped used_is h reached = used_moved sets s e moment new small stepped used_is ∙ ap (λ (t : State). later_moment t.now moment) reached
 
 -- the numbers that are published are those of the longer list
 pub numbers_next : (sets of_board of_new : List Rules) (list : List Entry) (e : Entry) (new : State) (g : Glance) → of_board ≡ sets → of_new ≡ sets → new ≡ after sets (list ++ e ∷ []) → g ≡ numbers_of of_new 0 new

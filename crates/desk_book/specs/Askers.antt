@@ -6,7 +6,7 @@ use Rattle.options_machine.specs.declared.reply.Request.{Request}
 use Rattle.options_machine.specs.Law.{AreSets}
 use Rattle.options_machine.specs.Own as machine
 use Rattle.options_machine.specs.Run.{IsRun, after}
-use Rattle.options_machine.specs.Settle.{moved}
+use Rattle.options_machine.specs.Settle.{later_moment}
 use Rattle.options_machine.specs.State.{set_at}
 use Rattle.stat_board.specs.Fronts.{Front, IsSameBoard}
 use Rattle.turn_lock.specs.Entries as turns
@@ -64,5 +64,5 @@ pub record Makes (old new : Asker) (moment place : ℕ) (before : List Entry) (e
   pub mine : new.mine ≡ old.mine ++ e ∷ []
   pub only : new.mine ≡ machine.own new.seen new.number
   -- the moment is that to which settling brings the state before it
-  pub moment_is : e.moment ≡ moved (after new.law.sets before).now moment
+  pub moment_is : e.moment ≡ later_moment (after new.law.sets before).now moment
   pub place_is : place ≡ length before % 2 ^ 64

@@ -5,7 +5,7 @@ use Rattle.options_machine.specs.declared.reply.Entry.{Entry}
 use Rattle.options_machine.specs.declared.reply.Request.{Request}
 use Rattle.options_machine.specs.Law.{AreSets}
 use Rattle.options_machine.specs.Run.{AsksForSet, IsRun, after}
-use Rattle.options_machine.specs.Settle.{moved}
+use Rattle.options_machine.specs.Settle.{later_moment}
 use Rattle.options_machine.specs.State.{set_at}
 use Rattle.stat_board.specs.Fronts.{Front}
 use Rattle.stat_board.specs.Rule.{Posted}
@@ -53,7 +53,7 @@ pub record Runs (l : DeskLaw) (h : List Call) : Type 0 where
 
 -- the moment to which settling brings the state after these calls
 abbrev pub used_at : DeskLaw → List Call → ℕ → ℕ
-used_at l h moment = moved (after l.sets (entries_of h)).now moment
+used_at l h moment = later_moment (after l.sets (entries_of h)).now moment
 
 -- the board shows the first n of these calls, which are all of them as long as it is live
 pub record Shows (b : Posted) (h : List Call) : Type 0 where

@@ -6,7 +6,7 @@ use Rattle.counter.specs.Account.{grants}
 use Rattle.desk_book.specs.declared.end.DeskLog.{DeskLog}
 use Rattle.feature_desk.specs.declared.closing.DeskTally.{DeskTally}
 use Rattle.desk_logs.specs.Ends.{AreEnds, IsEnd, ends_text, log_end, tally_end}
-use Rattle.desk_logs.specs.Text.{ended, log_of, logs_text, numbered, tally_of}
+use Rattle.desk_logs.specs.Text.{lines_with_count, log_of, logs_text, numbered, tally_of}
 
 -- texts are the same where each is
 same_texts : {X Y : Type 0} (f : ℕ → X → List ℕ) (g : ℕ → Y → List ℕ) (d : Y) (n : ℕ) (xs : List X) (ys : List Y) → length xs ≡ length ys
@@ -21,7 +21,7 @@ same_texts {X} {Y} f g d n (x ∷ xs) (y ∷ ys) e h =
 -- a log with the first entries of a history is written as that history calls for
 log_same : (k : ℕ) (l : DeskLog) (t : DeskTally) (h : List Entry) → IsEnd l t h → log_of k l ≡ log_end k h
 log_same k l t h e =
-    ap (λ (entries : List Entry). ended k entries l.cut) e.log_is.entries ∙ ap (λ (cut : Bool). ended k (take ENTRY_LIMIT h) cut) e.log_is.cut_is
+    ap (λ (entries : List Entry). lines_with_count k entries l.cut) e.log_is.entries ∙ ap (λ (cut : Bool). lines_with_count k (take ENTRY_LIMIT h) cut) e.log_is.cut_is
 
 tally_same : (k : ℕ) (l : DeskLog) (t : DeskTally) (h : List Entry) → IsEnd l t h → tally_of k t ≡ tally_end k h
 tally_same k l t h e =

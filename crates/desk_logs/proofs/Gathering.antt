@@ -1,7 +1,7 @@
 use Rattle.std.proofs.Common.{◌≡◌, ℕ, List, [], ◌++◌, Option, Result, Ok, Err, refl, sym, ap, subst, ◌∙◌, append_assoc, append-nil, arith, vec_capacity}
 use Rattle.std.specs.Prelude.{Vec, OnOk}
 use Rattle.std.specs.declared.alloc.Global.{Global}
-use Rattle.outside.specs.Told.{Wrote, told_with}
+use Rattle.outside.specs.Told.{Wrote, held_after}
 use Rattle.outside.specs.declared.sink.WriteFailed.{WriteFailed}
 use Rattle.outside.proofs.Told.{front_within, told_none, told_twice}
 use Rattle.desk_logs.specs.Gathered.{Gathers, IsGathered, IsUnderWay}
@@ -10,7 +10,7 @@ use Rattle.desk_logs.specs.Gathered.{Gathers, IsGathered, IsUnderWay}
 both : (old now new : Option (List ℕ)) (first gathered piece more last : List ℕ) → IsGathered old now gathered (first ++ piece) → IsGathered now new last (gathered ++ more) → IsGathered old new last (first ++ (piece ++ more))
 both old now new first gathered piece more last j k = record {
   done = j.done ++ k.done;
-  written = k.written ∙ (ap (λ (h : Option (List ℕ)). told_with h k.done) j.written ∙ told_twice old j.done k.done);
+  written = k.written ∙ (ap (λ (h : Option (List ℕ)). held_after h k.done) j.written ∙ told_twice old j.done k.done);
   all = append_assoc j.done k.done last ∙ (ap (λ (l : List ℕ). j.done ++ l) k.all ∙ (sym (append_assoc j.done gathered more) ∙ (ap (λ (l : List ℕ). l ++ more) j.all ∙ append_assoc first piece more)));
 }
 
@@ -77,7 +77,7 @@ module _ {S : Type 0} {held : S → Option (List ℕ)} {faults : S → ℕ} wher
   pub written : {old now new : S} {before between : Vec ℕ Global} {whole : List ℕ} (result : Result (Unit {0}) WriteFailed) → Gathers held faults old now before between whole (Ok tt)
       → Wrote held faults now new between.items result → Wrote held faults old new whole result
   written {old = old} {between = between} (Ok u) k w = record {
-    ok = w.ok ∙ (ap (λ (h : Option (List ℕ)). told_with h between.items) k.ok.written ∙ (told_twice (held old) k.ok.done between.items ∙ ap (told_with (held old)) k.ok.all));
+    ok = w.ok ∙ (ap (λ (h : Option (List ℕ)). held_after h between.items) k.ok.written ∙ (told_twice (held old) k.ok.done between.items ∙ ap (held_after (held old)) k.ok.all));
     err = tt;
     failed = tt;
     steady = w.steady ∙ k.steady;

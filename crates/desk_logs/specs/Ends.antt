@@ -7,11 +7,11 @@ use Rattle.counter.specs.Account.{grants}
 use Rattle.desk_book.specs.declared.end.DeskLog.{DeskLog}
 use Rattle.feature_desk.specs.Closings.{HasLog}
 use Rattle.feature_desk.specs.declared.closing.DeskTally.{DeskTally}
-use Rattle.desk_logs.specs.Text.{ended, logs_text, numbered}
+use Rattle.desk_logs.specs.Text.{lines_with_count, logs_text, numbered}
 
 -- the log of a pool with this history: its first 4,096 entries, and whether there were more
 abbrev pub log_end : ℕ → List Entry → List ℕ
-log_end pool history = ended pool (take ENTRY_LIMIT history) (nat_lt ENTRY_LIMIT (length history))
+log_end pool history = lines_with_count pool (take ENTRY_LIMIT history) (nat_lt ENTRY_LIMIT (length history))
 
 -- its tally: its entries, the replies of them that brought a seat, and the same again, since its cards were taken as often
 abbrev pub tally_end : ℕ → List Entry → List ℕ

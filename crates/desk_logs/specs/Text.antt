@@ -16,12 +16,12 @@ abbrev pub entries_from : ℕ → ℕ → List Entry → List ℕ
 entries_from pool place entries = numbered (entry_text pool) place entries
 
 -- the lines of these entries, and the line that says how many they are and whether there were more
-abbrev pub ended : ℕ → List Entry → Bool → List ℕ
-ended pool entries cut = entries_from pool 0 entries ++ log_text pool (length entries) cut
+abbrev pub lines_with_count : ℕ → List Entry → Bool → List ℕ
+lines_with_count pool entries cut = entries_from pool 0 entries ++ log_text pool (length entries) cut
 
 -- the log of a pool
 abbrev pub log_of : ℕ → DeskLog → List ℕ
-log_of pool log = ended pool log.entries.items log.cut
+log_of pool log = lines_with_count pool log.entries.items log.cut
 
 -- the line of a pool's tally
 abbrev pub tally_of : ℕ → DeskTally → List ℕ

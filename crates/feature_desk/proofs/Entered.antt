@@ -14,7 +14,7 @@ use Rattle.options_machine.specs.declared.reply.Reply.TheVariants as reply
 use Rattle.options_machine.specs.Own.{holds, is_entry_of, is_of_holding, is_of_queueing, is_some_of, own, queues, standing, standing_then}
 use Rattle.options_machine.specs.Rules.{Rules}
 use Rattle.options_machine.specs.Run.{IsRun, after}
-use Rattle.options_machine.specs.Settle.{moved}
+use Rattle.options_machine.specs.Settle.{later_moment}
 use Rattle.options_machine.specs.State.{opening}
 use Rattle.options_machine.specs.Step.{set_asked}
 use Rattle.options_machine.proofs.Counts.{count-cons}
@@ -190,7 +190,7 @@ module _ (t u : Asker) (client : Client) (kind : Kind) (moment used : ℕ) (answ
         asker = party_is;
         client = refl;
         kind = refl;
-        moment = makes.moment_is ∙ ap (λ (l : DeskLaw). moved (after l.sets before).now moment) law_is;
+        moment = makes.moment_is ∙ ap (λ (l : DeskLaw). later_moment (after l.sets before).now moment) law_is;
         reply = refl;
         told = refl;
         place = makes.place_is;

@@ -12,10 +12,10 @@ use Rattle.lic_text.proofs.Readings.{fault_too}
 use Rattle.lic_types.specs.Groups.{same_name}
 use Rattle.lic_types.specs.declared.note.Note.{Note}
 use Rattle.lic_types.specs.declared.note.NoteKind.TheVariants.{SecondFeature, NodeLocked, NotServed}
-use Rattle.feature_lines.specs.Licence.{Contents, Judged, count_fault, counted, counted_in, fault_in, fault_told, first_some, has_line, is_feature_of, is_second, licence_in, line_key, note_in, notes_of, pools_of, some_or, total, unless_fault, with_before}
-use Rattle.feature_lines.specs.Line.{within_limit, feature_of, granted, judged, keyword_of, or_fault, said_by, said_of, terms_of, with_word}
+use Rattle.feature_lines.specs.Licence.{Contents, Judged, count_fault, counted_lines, counted_in, fault_in, fault_told, first_some, has_line, is_feature_of, is_second, licence_in, line_key, note_in, notes_of, pools_of, some_or, total, unless_fault, with_before}
+use Rattle.feature_lines.specs.Line.{within_limit, feature_of, line_with_terms, said_or_fault, keyword_of, or_fault, said_by, said_of, terms_of, with_word}
 use Rattle.lic_types.specs.NameSets.{has_name, with_name}
-use Rattle.feature_lines.specs.Steps.{Sofar, added, added_to, blank, counted_or_locked, noted, passed, raised, stepped, taken, with_pools}
+use Rattle.feature_lines.specs.Steps.{Sofar, pools_with_line, added_to, blank, counted_or_locked, noted, passed, pools_with_more, stepped, after_feature, with_pools}
 use Rattle.feature_lines.specs.declared.fault.LicenceFault.{LicenceFault}
 use Rattle.feature_lines.specs.declared.fault.LicenceFault.TheVariants.{BadCount, TooManyPools}
 use Rattle.feature_lines.specs.declared.line.FeatureLine.{FeatureLine}
@@ -43,7 +43,7 @@ AreSmall (line ∷ lines) = IsSmall line × AreSmall lines
 
 -- what is read so far is what the lines before say
 pub record IsKept (before : List Judged) (s : Sofar) : Type 0 where
-  pub pools : s.pools ≡ pools_of (counted before)
+  pub pools : s.pools ≡ pools_of (counted_lines before)
   pub notes : s.notes ≡ notes_of before
   pub features : (name : List ℕ) → has_name name s.features ≡ list_any (is_feature_of name) before
 
@@ -52,18 +52,18 @@ abbrev Says : List Judged → Judged → Result Sofar LicenceFault → Type 0
 Says before line (Ok s) = (fault_in before line ≡ None) × IsKept (before ++ line ∷ []) s
 Says before line (Err fault) = fault_in before line ≡ Some fault
 
-counted_push : (before : List Judged) (line : Judged) → counted (before ++ line ∷ []) ≡ counted before ++ option_to_list (counted_in before line)
+counted_push : (before : List Judged) (line : Judged) → counted_lines (before ++ line ∷ []) ≡ counted_lines before ++ option_to_list (counted_in before line)
 counted_push before line = told_push counted_in before line
 
 notes_push : (before : List Judged) (line : Judged) → notes_of (before ++ line ∷ []) ≡ notes_of before ++ option_to_list (note_in before line)
 notes_push before line = told_push note_in before line
 
 -- no count more
-same_counted : (before : List Judged) (line : Judged) → counted_in before line ≡ None → counted (before ++ line ∷ []) ≡ counted before
-same_counted before line none = counted_push before line ∙ (ap (λ (o : Option FeatureLine). counted before ++ option_to_list o) none ∙ append-nil (counted before))
+same_counted : (before : List Judged) (line : Judged) → counted_in before line ≡ None → counted_lines (before ++ line ∷ []) ≡ counted_lines before
+same_counted before line none = counted_push before line ∙ (ap (λ (o : Option FeatureLine). counted_lines before ++ option_to_list o) none ∙ append-nil (counted_lines before))
 
-one_counted : (before : List Judged) (line : Judged) (f : FeatureLine) → counted_in before line ≡ Some f → counted (before ++ line ∷ []) ≡ counted before ++ f ∷ []
-one_counted before line f some = counted_push before line ∙ ap (λ (o : Option FeatureLine). counted before ++ option_to_list o) some
+one_counted : (before : List Judged) (line : Judged) (f : FeatureLine) → counted_in before line ≡ Some f → counted_lines (before ++ line ∷ []) ≡ counted_lines before ++ f ∷ []
+one_counted before line f some = counted_push before line ∙ ap (λ (o : Option FeatureLine). counted_lines before ++ option_to_list o) some
 
 same_notes : (before : List Judged) (line : Judged) → note_in before line ≡ None → notes_of (before ++ line ∷ []) ≡ notes_of before
 same_notes before line none = notes_push before line ∙ (ap (λ (o : Option Note). notes_of before ++ option_to_list o) none ∙ append-nil (notes_of before))
@@ -84,7 +84,7 @@ over_or_not false ps qs fault same = ap Ok same
 abbrev fault_when : Bool → Bool → ℕ → FeatureLine → Option LicenceFault
 fault_when over has n f = cond over (Some (BadCount f.line)) (cond (not has && leb 64 n) (Some (TooManyPools f.line)) None)
 
-added_when : (lines : List FeatureLine) (f : FeatureLine) (has : Bool) → has_line lines (line_key f) ≡ has → f.count ≤ 65535 → added f (pools_of lines) ≡ unless_fault (count_fault lines f) (pools_of (lines ++ f ∷ []))
+added_when : (lines : List FeatureLine) (f : FeatureLine) (has : Bool) → has_line lines (line_key f) ≡ has → f.count ≤ 65535 → pools_with_line f (pools_of lines) ≡ unless_fault (count_fault lines f) (pools_of (lines ++ f ∷ []))
 added_when lines f false none small =
     let pools = pools_of lines in
     let sum : total lines (line_key f) ≡ 0 = no_total lines (line_key f) none in
@@ -97,16 +97,16 @@ added_when lines f true some small =
     let pools = pools_of lines in
     let one = one_of_key lines (line_key f) some in
     ap (added_to f pools) one.1
-    ∙ (ap (λ (n : ℕ). cond (ltb 65535 (n + f.count)) (Err (BadCount f.line)) (Ok (raised (line_key f) f.count pools))) one.2
+    ∙ (ap (λ (n : ℕ). cond (ltb 65535 (n + f.count)) (Err (BadCount f.line)) (Ok (pools_with_more (line_key f) f.count pools))) one.2
     ∙ (over_or_not (ltb 65535 (total lines (line_key f) + f.count)) _ _ (BadCount f.line) (sym (pools_more lines f some))
     ∙ ap (λ (h : Bool). unless_fault (fault_when (ltb 65535 (total lines (line_key f) + f.count)) h (length pools) f) (pools_of (lines ++ f ∷ []))) (sym some)))
 
 -- ---- a FEATURE or INCREMENT line
 
-fault_by : (before : List Judged) (f : FeatureLine) (second zero_count : Bool) → is_second before f ≡ second → (eqb f.count 0) ≡ zero_count → fault_in before (Ok (Feature f)) ≡ cond (not second && not zero_count) (count_fault (counted before) f) None
+fault_by : (before : List Judged) (f : FeatureLine) (second zero_count : Bool) → is_second before f ≡ second → (eqb f.count 0) ≡ zero_count → fault_in before (Ok (Feature f)) ≡ cond (not second && not zero_count) (count_fault (counted_lines before) f) None
 fault_by before f second zero_count p q =
-    ap (λ (b : Bool). cond (not b && not (eqb f.count 0)) (count_fault (counted before) f) None) p
-    ∙ ap (λ (b : Bool). cond (not second && not b) (count_fault (counted before) f) None) q
+    ap (λ (b : Bool). cond (not b && not (eqb f.count 0)) (count_fault (counted_lines before) f) None) p
+    ∙ ap (λ (b : Bool). cond (not second && not b) (count_fault (counted_lines before) f) None) q
 
 counted_by : (before : List Judged) (f : FeatureLine) (second zero_count : Bool) → is_second before f ≡ second → (eqb f.count 0) ≡ zero_count → counted_in before (Ok (Feature f)) ≡ cond (not second && not zero_count) (Some f) None
 counted_by before f second zero_count p q =
@@ -122,8 +122,8 @@ note_by before f second zero_count p q = ap (λ (b : Bool). note_when b (eqb f.c
 abbrev KnowsNames : List Judged → Sofar → Type 0
 KnowsNames lines s = (name : List ℕ) → has_name name s.features ≡ list_any (is_feature_of name) lines
 
-summed : (before : List Judged) (s : Sofar) (f : FeatureLine) (o : Option LicenceFault) → count_fault (counted before) f ≡ o → is_second before f ≡ false → (eqb f.count 0) ≡ false
-    → s.notes ≡ notes_of before → KnowsNames (before ++ Ok (Feature f) ∷ []) s → Says before (Ok (Feature f)) (with_pools s (unless_fault o (pools_of (counted before ++ f ∷ []))))
+summed : (before : List Judged) (s : Sofar) (f : FeatureLine) (o : Option LicenceFault) → count_fault (counted_lines before) f ≡ o → is_second before f ≡ false → (eqb f.count 0) ≡ false
+    → s.notes ≡ notes_of before → KnowsNames (before ++ Ok (Feature f) ∷ []) s → Says before (Ok (Feature f)) (with_pools s (unless_fault o (pools_of (counted_lines before ++ f ∷ []))))
 summed before s f None is first some notes names = (
   fault_by before f false false first some ∙ is,
   record {
@@ -135,8 +135,8 @@ summed before s f None is first some notes names = (
 summed before s f (Some fault) is first some notes names = fault_by before f false false first some ∙ is
 
 first_when : (before : List Judged) (s : Sofar) (f : FeatureLine) (zero_count : Bool) → (eqb f.count 0) ≡ zero_count → is_second before f ≡ false → f.count ≤ 65535
-    → s.pools ≡ pools_of (counted before) → s.notes ≡ notes_of before → KnowsNames (before ++ Ok (Feature f) ∷ []) s
-    → Says before (Ok (Feature f)) (cond zero_count (Ok (noted f.line NodeLocked s)) (with_pools s (added f s.pools)))
+    → s.pools ≡ pools_of (counted_lines before) → s.notes ≡ notes_of before → KnowsNames (before ++ Ok (Feature f) ∷ []) s
+    → Says before (Ok (Feature f)) (cond zero_count (Ok (noted f.line NodeLocked s)) (with_pools s (pools_with_line f s.pools)))
 first_when before s f true is first small pools notes names = (
   fault_by before f false true first is,
   record {
@@ -146,7 +146,7 @@ first_when before s f true is first small pools notes names = (
   },
 )
 first_when before s f false is first small pools notes names =
-    let sum : added f s.pools ≡ unless_fault (count_fault (counted before) f) (pools_of (counted before ++ f ∷ [])) = ap (added f) pools ∙ added_when (counted before) f _ refl small in
+    let sum : pools_with_line f s.pools ≡ unless_fault (count_fault (counted_lines before) f) (pools_of (counted_lines before ++ f ∷ [])) = ap (pools_with_line f) pools ∙ added_when (counted_lines before) f _ refl small in
     subst (λ (r : Result (List Pool) LicenceFault). Says before (Ok (Feature f)) (with_pools s r)) (sym sum) (summed before s f _ refl first is notes names)
 
 or_none : (b : Bool) → (b || false) ≡ b
@@ -185,7 +185,7 @@ feature_when before s f false has p q kept small =
     first_when before s f _ refl first small kept.pools kept.notes
     (λ name. kept.features name ∙ (sym (or_none _) ∙ sym (names_push before f name false p)))
 
-feature_says : (before : List Judged) (s : Sofar) (f : FeatureLine) → IsKept before s → f.count ≤ 65535 → Says before (Ok (Feature f)) (taken s f)
+feature_says : (before : List Judged) (s : Sofar) (f : FeatureLine) → IsKept before s → f.count ≤ 65535 → Says before (Ok (Feature f)) (after_feature s f)
 feature_says before s f kept small =
     subst (λ (b : Bool). Says before (Ok (Feature f)) (cond f.is_feature (cond b (Ok (noted f.line SecondFeature s)) (counted_or_locked (record s { features = with_name s.features f.name }) f)) (counted_or_locked s f))) (sym (kept.features f.name))
     (feature_when before s f f.is_feature (list_any (is_feature_of f.name) before) refl refl kept small)
@@ -219,7 +219,7 @@ ended (Ok s) = Ok (record { pools = s.pools; notes = s.notes })
 ended (Err fault) = Err fault
 
 abbrev contents_of : List Judged → Contents
-contents_of lines = record { pools = pools_of (counted lines); notes = notes_of lines }
+contents_of lines = record { pools = pools_of (counted_lines lines); notes = notes_of lines }
 
 abbrev first_behind : List Judged → List Judged → Option LicenceFault
 first_behind before lines = first_some (λ (at : List Judged × Judged). fault_in at.0 at.1) (with_before before lines)
@@ -280,7 +280,7 @@ terms_small line words =
     word_holds AreTermsSmall _ _ _ others _ tt tt (λ expiry word2 others2 is2.
     word_holds AreTermsSmall _ _ _ others2 _ tt tt (λ count word3 others3 is3. small_number _ (number_of word3) count is3)))
 
-granted_small : (line : ℕ) (is_feature : Bool) (name vendor : List ℕ) (r : Result Terms LicenceFault) → AreTermsSmall r → IsSmall (granted line is_feature name vendor r)
+granted_small : (line : ℕ) (is_feature : Bool) (name vendor : List ℕ) (r : Result Terms LicenceFault) → AreTermsSmall r → IsSmall (line_with_terms line is_feature name vendor r)
 granted_small line is_feature name vendor (Ok terms) small = small
 granted_small line is_feature name vendor (Err fault) small = tt
 
@@ -300,11 +300,11 @@ words_small : (line : ℕ) (words : List (List ℕ)) → IsSmall (said_of line w
 words_small line [] = tt
 words_small line (word ∷ words) = said_small line (keyword_of word) words
 
-line_small : (line : Result Worded TextFault) → IsSmall (judged line)
+line_small : (line : Result Worded TextFault) → IsSmall (said_or_fault line)
 line_small (Ok line) = words_small line.0 line.1
 line_small (Err fault) = tt
 
 -- the lines of a file have small counts
-pub lines_small : (lines : List (Result Worded TextFault)) → AreSmall (map judged lines)
+pub lines_small : (lines : List (Result Worded TextFault)) → AreSmall (map said_or_fault lines)
 lines_small [] = tt
 lines_small (line ∷ lines) = (line_small line, lines_small lines)

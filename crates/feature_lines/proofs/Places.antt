@@ -2,7 +2,7 @@ use Rattle.std.proofs.Common.{◌≡◌, ℕ, zero, suc, ◌+◌, ◌<◌, ◌�
 use Rattle.std.proofs.lemmas.Bool.Decides.{nat_tests}
 use Rattle.std.specs.List.{find, position_from}
 use Rattle.feature_lines.specs.Licence.{PoolKey, line_key, pool_key, pool_with, same_key}
-use Rattle.feature_lines.specs.Steps.{added, raised, with_more}
+use Rattle.feature_lines.specs.Steps.{pools_with_line, pools_with_more, with_more}
 use Rattle.feature_lines.specs.declared.fault.LicenceFault.TheVariants.{BadCount, TooManyPools}
 use Rattle.feature_lines.specs.declared.line.FeatureLine.{FeatureLine}
 use Rattle.feature_lines.specs.declared.pool.Pool.{Pool}
@@ -20,7 +20,7 @@ none_found t (x ∷ xs) i h = elim (t x) as (λ (b : Bool). cond b (Some i) (pos
 
 -- what is known of the pools where the first of a key is at a place
 abbrev AtPlace : PoolKey → ℕ → List Pool → ℕ → Pool → Type 0
-AtPlace key count ps k d = (find (λ p. same_key key (pool_key p)) ps ≡ Some (slice_index_or ps k d)) × (raised key count ps ≡ slice_set ps k (with_more count (slice_index_or ps k d)))
+AtPlace key count ps k d = (find (λ p. same_key key (pool_key p)) ps ≡ Some (slice_index_or ps k d)) × (pools_with_more key count ps ≡ slice_set ps k (with_more count (slice_index_or ps k d)))
 
 place_step : (key : PoolKey) (count : ℕ) (p : Pool) (ps : List Pool) (i at k : ℕ) (d : Pool) (t : Bool) → same_key key (pool_key p) ≡ t
     → cond t (Some i) (position_from (λ p. same_key key (pool_key p)) (i + 1) ps) ≡ Some at → at ≡ i + k
@@ -38,19 +38,19 @@ at_place key count [] i at k d h e = absurd cc
 at_place key count (p ∷ ps) i at k d h e = place_step key count p ps i at k d (same_key key (pool_key p)) refl h e (λ r. at_place key count ps (i + 1) at r d)
 
 -- where no pool is of the line, and there are enough
-pub no_room : (f : FeatureLine) (pools : List Pool) → position_from (λ p. same_key (line_key f) (pool_key p)) 0 pools ≡ None → 64 ≤ length pools → added f pools ≡ Err (TooManyPools f.line)
+pub no_room : (f : FeatureLine) (pools : List Pool) → position_from (λ p. same_key (line_key f) (pool_key p)) 0 pools ≡ None → 64 ≤ length pools → pools_with_line f pools ≡ Err (TooManyPools f.line)
 no_room f pools none many =
     let full : ltb (length pools) 64 ≡ false = le-ltb (length pools) 64 many in
     rw (none_found (λ p. same_key (line_key f) (pool_key p)) pools 0 none, full) refl
 
 -- where no pool is of the line, and there are not so many
-pub new_pool : (f : FeatureLine) (pools : List Pool) → position_from (λ p. same_key (line_key f) (pool_key p)) 0 pools ≡ None → length pools < 64 → added f pools ≡ Ok (pools ++ pool_with f.count f ∷ [])
+pub new_pool : (f : FeatureLine) (pools : List Pool) → position_from (λ p. same_key (line_key f) (pool_key p)) 0 pools ≡ None → length pools < 64 → pools_with_line f pools ≡ Ok (pools ++ pool_with f.count f ∷ [])
 new_pool f pools none few =
     let room : ltb (length pools) 64 ≡ true = grind (arith, nat_tests) in
     rw (none_found (λ p. same_key (line_key f) (pool_key p)) pools 0 none, room) refl
 
 -- where a pool is of the line, and the sum is too large
-pub too_many : (f : FeatureLine) (pools : List Pool) (at : ℕ) (d : Pool) → position_from (λ p. same_key (line_key f) (pool_key p)) 0 pools ≡ Some at → d ≡ slice_index_or pools at d → 65535 < d.count + f.count → added f pools ≡ Err (BadCount f.line)
+pub too_many : (f : FeatureLine) (pools : List Pool) (at : ℕ) (d : Pool) → position_from (λ p. same_key (line_key f) (pool_key p)) 0 pools ≡ Some at → d ≡ slice_index_or pools at d → 65535 < d.count + f.count → pools_with_line f pools ≡ Err (BadCount f.line)
 too_many f pools at d place is many =
     let known = at_place (line_key f) f.count pools 0 at at d place (omega arith) in
     let found : find (λ p. same_key (line_key f) (pool_key p)) pools ≡ Some d = known.0 ∙ ap Some (sym is) in
@@ -58,7 +58,7 @@ too_many f pools at d place is many =
     rw (found, over) refl
 
 -- where a pool is of the line, and the sum is not too large
-pub more_of : (f : FeatureLine) (pools : List Pool) (at : ℕ) (d : Pool) → position_from (λ p. same_key (line_key f) (pool_key p)) 0 pools ≡ Some at → d ≡ slice_index_or pools at d → d.count + f.count ≤ 65535 → added f pools ≡ Ok (slice_set pools at (with_more f.count d))
+pub more_of : (f : FeatureLine) (pools : List Pool) (at : ℕ) (d : Pool) → position_from (λ p. same_key (line_key f) (pool_key p)) 0 pools ≡ Some at → d ≡ slice_index_or pools at d → d.count + f.count ≤ 65535 → pools_with_line f pools ≡ Ok (slice_set pools at (with_more f.count d))
 more_of f pools at d place is few =
     let known = at_place (line_key f) f.count pools 0 at at d place (omega arith) in
     let found : find (λ p. same_key (line_key f) (pool_key p)) pools ≡ Some d = known.0 ∙ ap Some (sym is) in

@@ -4,7 +4,7 @@ use Rattle.std.proofs.lemmas.Bool.{ltb-true, ltb-false, or_parts}
 use Rattle.std.specs.List.{find, list_all}
 use Rattle.std.proofs.lemmas.List.Folds.{list_any-append}
 use Rattle.feature_lines.specs.Licence.{ArePools, Judged, PoolKey, are_apart, has_licences, has_pool, line_key, pool_key, pool_with, same_key}
-use Rattle.feature_lines.specs.Steps.{Sofar, added, added_to, counted_or_locked, passed, raised, stepped, with_more, with_pools}
+use Rattle.feature_lines.specs.Steps.{Sofar, pools_with_line, added_to, counted_or_locked, passed, pools_with_more, stepped, with_more, with_pools}
 use Rattle.feature_lines.specs.declared.fault.LicenceFault.{LicenceFault}
 use Rattle.feature_lines.specs.declared.line.FeatureLine.{FeatureLine}
 use Rattle.feature_lines.specs.declared.line.Said.TheVariants.{Nothing, NotServed as Unserved, Feature}
@@ -50,26 +50,26 @@ apart_push (q ∷ qs) p apart none =
     rw still (apart_push qs p two.1 parts.1)
 
 -- raising a pool keeps what makes it one
-has_raised : (key other : PoolKey) (count : ℕ) (pools : List Pool) → has_pool other (raised key count pools) ≡ has_pool other pools
+has_raised : (key other : PoolKey) (count : ℕ) (pools : List Pool) → has_pool other (pools_with_more key count pools) ≡ has_pool other pools
 has_raised key other count [] = refl
-has_raised key other count (p ∷ ps) = elim (same_key key (pool_key p)) as (λ (t : Bool). has_pool other (cond t (with_more count p ∷ ps) (p ∷ raised key count ps)) ≡ (same_key other (pool_key p) || has_pool other ps)) [ true ↦ refl | false ↦ ap (λ (b : Bool). same_key other (pool_key p) || b) (has_raised key other count ps) ]
+has_raised key other count (p ∷ ps) = elim (same_key key (pool_key p)) as (λ (t : Bool). has_pool other (cond t (with_more count p ∷ ps) (p ∷ pools_with_more key count ps)) ≡ (same_key other (pool_key p) || has_pool other ps)) [ true ↦ refl | false ↦ ap (λ (b : Bool). same_key other (pool_key p) || b) (has_raised key other count ps) ]
 
-apart_raised : (key : PoolKey) (count : ℕ) (pools : List Pool) → are_apart pools ≡ true → are_apart (raised key count pools) ≡ true
+apart_raised : (key : PoolKey) (count : ℕ) (pools : List Pool) → are_apart pools ≡ true → are_apart (pools_with_more key count pools) ≡ true
 apart_raised key count [] apart = refl
 apart_raised key count (p ∷ ps) apart =
     let two = both (not (has_pool (pool_key p) ps)) (are_apart ps) apart in
     let rest = apart_raised key count ps two.1 in
-    elim (same_key key (pool_key p)) as (λ (t : Bool). are_apart (cond t (with_more count p ∷ ps) (p ∷ raised key count ps)) ≡ true) [ true ↦ apart | false ↦ rw (has_raised key (pool_key p) count ps, two.0) rest ]
+    elim (same_key key (pool_key p)) as (λ (t : Bool). are_apart (cond t (with_more count p ∷ ps) (p ∷ pools_with_more key count ps)) ≡ true) [ true ↦ apart | false ↦ rw (has_raised key (pool_key p) count ps, two.0) rest ]
 
-length_raised : (key : PoolKey) (count : ℕ) (pools : List Pool) → length (raised key count pools) ≡ length pools
+length_raised : (key : PoolKey) (count : ℕ) (pools : List Pool) → length (pools_with_more key count pools) ≡ length pools
 length_raised key count [] = refl
-length_raised key count (p ∷ ps) = elim (same_key key (pool_key p)) as (λ (t : Bool). length (cond t (with_more count p ∷ ps) (p ∷ raised key count ps)) ≡ length (p ∷ ps)) [ true ↦ refl | false ↦ (let rest = length_raised key count ps in omega arith) ]
+length_raised key count (p ∷ ps) = elim (same_key key (pool_key p)) as (λ (t : Bool). length (cond t (with_more count p ∷ ps) (p ∷ pools_with_more key count ps)) ≡ length (p ∷ ps)) [ true ↦ refl | false ↦ (let rest = length_raised key count ps in omega arith) ]
 
-all_raised : (key : PoolKey) (count : ℕ) (pools : List Pool) (d : Pool) → find (λ p. same_key key (pool_key p)) pools ≡ Some d → d.count + count ≤ 65535 → list_all has_licences pools ≡ true → list_all has_licences (raised key count pools) ≡ true
+all_raised : (key : PoolKey) (count : ℕ) (pools : List Pool) (d : Pool) → find (λ p. same_key key (pool_key p)) pools ≡ Some d → d.count + count ≤ 65535 → list_all has_licences pools ≡ true → list_all has_licences (pools_with_more key count pools) ≡ true
 all_raised key count [] d is few all = refl
 all_raised key count (p ∷ ps) d is few all =
     let two = both (has_licences p) (list_all has_licences ps) all in
-    elim (same_key key (pool_key p)) as (λ (t : Bool). cond t (Some p) (find (λ p. same_key key (pool_key p)) ps) ≡ Some d → list_all has_licences (cond t (with_more count p ∷ ps) (p ∷ raised key count ps)) ≡ true) [
+    elim (same_key key (pool_key p)) as (λ (t : Bool). cond t (Some p) (find (λ p. same_key key (pool_key p)) ps) ≡ Some d → list_all has_licences (cond t (with_more count p ∷ ps) (p ∷ pools_with_more key count ps)) ≡ true) [
       | true ↦ λ e. (let same : p ≡ d = cc in
           let counts : p.count ≡ d.count = ap (λ (q : Pool). q.count) same in
           let some : 0 < p.count = ltb-true 0 p.count (both (ltb 0 p.count) _ two.0).0 in
@@ -90,7 +90,7 @@ push_sound f pools true is none some few sound fault =
 push_sound f pools false is none some few sound fault = tt
 
 raise_sound : (f : FeatureLine) (pools : List Pool) (d : Pool) (b : Bool) → ltb 65535 (d.count + f.count) ≡ b → find (λ p. same_key (line_key f) (pool_key p)) pools ≡ Some d → ArePools pools
-    → (fault : LicenceFault) → AreSound (cond b (Err fault) (Ok (raised (line_key f) f.count pools)))
+    → (fault : LicenceFault) → AreSound (cond b (Err fault) (Ok (pools_with_more (line_key f) f.count pools)))
 raise_sound f pools d true is one sound fault = tt
 raise_sound f pools d false is one sound fault =
     record {
@@ -107,9 +107,9 @@ pools_sound : (s : Sofar) (r : Result (List Pool) LicenceFault) → AreSound r �
 pools_sound s (Ok pools) sound = sound
 pools_sound s (Err fault) sound = tt
 
-count_sound : (s t : Sofar) (f : FeatureLine) (b : Bool) → eqb f.count 0 ≡ b → f.count ≤ 65535 → ArePools s.pools → ArePools t.pools → IsSound (cond b (Ok t) (with_pools s (added f s.pools)))
+count_sound : (s t : Sofar) (f : FeatureLine) (b : Bool) → eqb f.count 0 ≡ b → f.count ≤ 65535 → ArePools s.pools → ArePools t.pools → IsSound (cond b (Ok t) (with_pools s (pools_with_line f s.pools)))
 count_sound s t f true is few sound other = other
-count_sound s t f false is few sound other = let some : 0 < f.count = grind (arith, nat_tests) in pools_sound s (added f s.pools) (add_sound f s.pools _ refl some few sound)
+count_sound s t f false is few sound other = let some : 0 < f.count = grind (arith, nat_tests) in pools_sound s (pools_with_line f s.pools) (add_sound f s.pools _ refl some few sound)
 
 feature_sound : (s t u : Sofar) (f : FeatureLine) (a b : Bool) → f.count ≤ 65535 → ArePools s.pools → ArePools t.pools → ArePools u.pools → IsSound (cond a (cond b (Ok t) (counted_or_locked u f)) (counted_or_locked s f))
 feature_sound s t u f true true few p q r = q

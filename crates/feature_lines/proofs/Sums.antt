@@ -6,7 +6,7 @@ use Rattle.std.proofs.lemmas.List.Elements.{filter-append, filter_map-append}
 use Rattle.std.proofs.lemmas.List.Folds.{list_any-append}
 use Rattle.std.proofs.lemmas.List.Sums.{sum_by-append}
 use Rattle.feature_lines.specs.Licence.{PoolKey, has_line, line_key, pool_in, pool_key, pool_with, pools_of, same_key, total, with_before}
-use Rattle.feature_lines.specs.Steps.{raised, with_more}
+use Rattle.feature_lines.specs.Steps.{pools_with_more, with_more}
 use Rattle.feature_lines.specs.declared.line.FeatureLine.{FeatureLine}
 use Rattle.feature_lines.specs.declared.pool.Pool.{Pool}
 use Rattle.feature_lines.proofs.Keys.{other_key, same_key_is, same_key_self}
@@ -86,10 +86,10 @@ unchanged all f front (x ∷ xs) some =
     ∙ ap (cons_option (pool_in all front x)) (unchanged all f (front ++ x ∷ []) xs (has_some front x (line_key f) some))
 
 raise_head : (t s : Bool) (n m count : ℕ) (x : FeatureLine) (key : PoolKey) (more others : List Pool) → same_key key (line_key x) ≡ s
-    → (t ≡ true → more ≡ raised key count others)
+    → (t ≡ true → more ≡ pools_with_more key count others)
     → (t ≡ false → s ≡ true → (m ≡ n + count) × (more ≡ others))
-    → (t ≡ false → s ≡ false → (m ≡ n) × (more ≡ raised key count others))
-    → cons_option (cond t None (Some (pool_with m x))) more ≡ raised key count (cons_option (cond t None (Some (pool_with n x))) others)
+    → (t ≡ false → s ≡ false → (m ≡ n) × (more ≡ pools_with_more key count others))
+    → cons_option (cond t None (Some (pool_with m x))) more ≡ pools_with_more key count (cons_option (cond t None (Some (pool_with n x))) others)
 raise_head true s n m count x key more others is p q r = p refl
 raise_head false true n m count x key more others is p q r =
     let known = q refl refl in
@@ -99,7 +99,7 @@ raise_head false false n m count x key more others is p q r =
     rw is (ap (λ (k : ℕ). pool_with k x ∷ more) known.0 ∙ ap (λ (ps : List Pool). pool_with n x ∷ ps) known.1)
 
 -- a line more raises the pool that it is of
-raises : (all : List FeatureLine) (f : FeatureLine) (front lines : List FeatureLine) → has_line front (line_key f) ≡ false → begun (all ++ f ∷ []) front lines ≡ raised (line_key f) f.count (begun all front lines)
+raises : (all : List FeatureLine) (f : FeatureLine) (front lines : List FeatureLine) → has_line front (line_key f) ≡ false → begun (all ++ f ∷ []) front lines ≡ pools_with_more (line_key f) f.count (begun all front lines)
 raises all f front [] none = refl
 raises all f front (x ∷ xs) none =
     raise_head (has_line front (line_key x)) (same_key (line_key f) (line_key x)) (total all (line_key x)) (total (all ++ f ∷ []) (line_key x)) f.count x (line_key f) _ _ refl
@@ -134,12 +134,12 @@ found : (all : List FeatureLine) (key : PoolKey) (front lines : List FeatureLine
 found all key front [] none some = absurd cc
 found all key front (x ∷ xs) none some = find_head all front xs x key (same_key key (line_key x)) refl none some (found all key (front ++ x ∷ []) xs)
 
-raised_none : (key : PoolKey) (count : ℕ) (pools : List Pool) → find (λ p. same_key key (pool_key p)) pools ≡ None → raised key count pools ≡ pools
+raised_none : (key : PoolKey) (count : ℕ) (pools : List Pool) → find (λ p. same_key key (pool_key p)) pools ≡ None → pools_with_more key count pools ≡ pools
 raised_none key count [] none = refl
-raised_none key count (p ∷ ps) none = elim (same_key key (pool_key p)) as (λ (t : Bool). cond t (Some p) (find (λ p. same_key key (pool_key p)) ps) ≡ None → cond t (with_more count p ∷ ps) (p ∷ raised key count ps) ≡ p ∷ ps) [ true ↦ λ e. absurd cc | false ↦ λ e. ap (λ (qs : List Pool). p ∷ qs) (raised_none key count ps e) ] none
+raised_none key count (p ∷ ps) none = elim (same_key key (pool_key p)) as (λ (t : Bool). cond t (Some p) (find (λ p. same_key key (pool_key p)) ps) ≡ None → cond t (with_more count p ∷ ps) (p ∷ pools_with_more key count ps) ≡ p ∷ ps) [ true ↦ λ e. absurd cc | false ↦ λ e. ap (λ (qs : List Pool). p ∷ qs) (raised_none key count ps e) ] none
 
 -- the pools of lines and of one more: its pool is raised, or begins
-pub pools_push : (lines : List FeatureLine) (f : FeatureLine) → pools_of (lines ++ f ∷ []) ≡ raised (line_key f) f.count (pools_of lines) ++ option_to_list (pool_in (lines ++ f ∷ []) lines f)
+pub pools_push : (lines : List FeatureLine) (f : FeatureLine) → pools_of (lines ++ f ∷ []) ≡ pools_with_more (line_key f) f.count (pools_of lines) ++ option_to_list (pool_in (lines ++ f ∷ []) lines f)
 pools_push lines f =
     told_push (pool_in (lines ++ f ∷ [])) lines f
     ∙ ap (λ (ps : List Pool). ps ++ option_to_list (pool_in (lines ++ f ∷ []) lines f)) (raises lines f [] lines refl)
@@ -151,7 +151,7 @@ pools_new lines f none =
     let sum : total (lines ++ f ∷ []) (line_key f) ≡ f.count = total_same lines f (line_key f) (same_key_self (line_key f)) ∙ rw zero_sum (omega arith) in
     pools_push lines f ∙ rw (raised_none (line_key f) f.count (pools_of lines) (no_pool lines (line_key f) [] lines none), none, sum) refl
 
-pub pools_more : (lines : List FeatureLine) (f : FeatureLine) → has_line lines (line_key f) ≡ true → pools_of (lines ++ f ∷ []) ≡ raised (line_key f) f.count (pools_of lines)
+pub pools_more : (lines : List FeatureLine) (f : FeatureLine) → has_line lines (line_key f) ≡ true → pools_of (lines ++ f ∷ []) ≡ pools_with_more (line_key f) f.count (pools_of lines)
 pools_more lines f some = pools_push lines f ∙ rw some (append-nil _)
 
 pub none_of_key : (lines : List FeatureLine) (key : PoolKey) → has_line lines key ≡ false → find (λ p. same_key key (pool_key p)) (pools_of lines) ≡ None

@@ -7,7 +7,7 @@ use Rattle.lic_types.specs.declared.day.Expiry.TheVariants.{Never, On}
 use Rattle.lic_types.specs.declared.note.Note.{Note}
 use Rattle.lic_types.specs.declared.note.NoteKind.TheVariants.{SecondFeature, NodeLocked, NotServed}
 use Rattle.lic_types.specs.declared.limits.TheConstants.{LICENCE_LIMIT}
-use Rattle.feature_lines.specs.Line.{judged}
+use Rattle.feature_lines.specs.Line.{said_or_fault}
 use Rattle.feature_lines.specs.declared.fault.LicenceFault.{LicenceFault}
 use Rattle.feature_lines.specs.declared.fault.LicenceFault.TheVariants.{BadCount, TooManyPools, NoMemory}
 use Rattle.feature_lines.specs.declared.line.FeatureLine.{FeatureLine}
@@ -87,8 +87,8 @@ counted_in before (Ok (Unserved line)) = None
 counted_in before (Err fault) = None
 
 -- the lines whose counts are added to pools
-abbrev pub counted : List Judged → List FeatureLine
-counted lines = filter_map (λ at. counted_in at.0 at.1) (with_before [] lines)
+abbrev pub counted_lines : List Judged → List FeatureLine
+counted_lines lines = filter_map (λ at. counted_in at.0 at.1) (with_before [] lines)
 
 -- the sum of the counts of the lines of one pool
 abbrev pub total : List FeatureLine → PoolKey → ℕ
@@ -131,7 +131,7 @@ count_fault lines f =
 -- the fault of a line, behind the lines before it
 abbrev pub fault_in : List Judged → Judged → Option LicenceFault
 fault_in before (Err fault) = Some fault
-fault_in before (Ok (Feature f)) = if is_counted before f then count_fault (counted before) f else None
+fault_in before (Ok (Feature f)) = if is_counted before f then count_fault (counted_lines before) f else None
 fault_in before (Ok Nothing) = None
 fault_in before (Ok (Unserved line)) = None
 
@@ -145,11 +145,11 @@ unless_fault (Some fault) x = Err fault
 
 -- the licence that lines say, or its first fault
 abbrev pub licence_in : List Judged → Result Contents LicenceFault
-licence_in lines = unless_fault (first_fault lines) (record { pools = pools_of (counted lines); notes = notes_of lines })
+licence_in lines = unless_fault (first_fault lines) (record { pools = pools_of (counted_lines lines); notes = notes_of lines })
 
 -- the licence that a file says, or its first fault
 abbrev pub licence_of : List ℕ → Result Contents LicenceFault
-licence_of file = licence_in (map judged (lines_of file))
+licence_of file = licence_in (map said_or_fault (lines_of file))
 
 -- the fault of a file that a fault tells; want of memory tells none
 abbrev pub fault_told : LicenceFault → Option LicenceFault

@@ -62,9 +62,9 @@ terms_of line words =
     Ok (record { version = version.0; version_text = version.1; expiry = expiry; count = count }))))
 
 -- the line of these terms
-abbrev pub granted : ℕ → Bool → List ℕ → List ℕ → Result Terms LicenceFault → Result Said LicenceFault
-granted line is_feature name vendor (Err fault) = Err fault
-granted line is_feature name vendor (Ok terms) =
+abbrev pub line_with_terms : ℕ → Bool → List ℕ → List ℕ → Result Terms LicenceFault → Result Said LicenceFault
+line_with_terms line is_feature name vendor (Err fault) = Err fault
+line_with_terms line is_feature name vendor (Ok terms) =
     Ok (Grants (record { line = line; is_feature = is_feature; name = name; vendor = vendor; version = terms.version; version_text = terms.version_text; expiry = terms.expiry; count = terms.count }))
 
 -- a FEATURE or INCREMENT line, by its words from the second on
@@ -72,7 +72,7 @@ abbrev pub feature_of : ℕ → Bool → List (List ℕ) → Result Said Licence
 feature_of line is_feature words =
     with_word (BadWord line 2) (BadWord line 2) (λ word. result_ok (name_of word)) words (λ name after_name.
     with_word (BadWord line 3) (BadWord line 3) (λ word. result_ok (name_of word)) after_name (λ vendor after_vendor.
-    granted line is_feature name vendor (terms_of line after_vendor)))
+    line_with_terms line is_feature name vendor (terms_of line after_vendor)))
 
 -- what a line of this keyword says, by its words from the second on
 abbrev pub said_by : ℕ → Option Keyword → List (List ℕ) → Result Said LicenceFault
@@ -88,6 +88,6 @@ said_of line [] = Err (BadWord line 1)
 said_of line (word ∷ words) = said_by line (keyword_of word) words
 
 -- what a line says, or its fault
-abbrev pub judged : Result Worded TextFault → Result Said LicenceFault
-judged (Ok line) = said_of line.0 line.1
-judged (Err fault) = Err (Line fault)
+abbrev pub said_or_fault : Result Worded TextFault → Result Said LicenceFault
+said_or_fault (Ok line) = said_of line.0 line.1
+said_or_fault (Err fault) = Err (Line fault)

@@ -28,17 +28,17 @@ abbrev pub with_more : ℕ → Pool → Pool
 with_more count p = record p { count = p.count + count }
 
 -- the first pool of this key has so many more
-abbrev pub raised : PoolKey → ℕ → List Pool → List Pool
-raised key count [] = []
-raised key count (p ∷ ps) = if same_key key (pool_key p) then with_more count p ∷ ps else p ∷ raised key count ps
+abbrev pub pools_with_more : PoolKey → ℕ → List Pool → List Pool
+pools_with_more key count [] = []
+pools_with_more key count (p ∷ ps) = if same_key key (pool_key p) then with_more count p ∷ ps else p ∷ pools_with_more key count ps
 
 abbrev pub added_to : FeatureLine → List Pool → Option Pool → Result (List Pool) LicenceFault
 added_to f pools None = if nat_lt (length pools) POOL_LIMIT then Ok (pools ++ pool_with f.count f ∷ []) else Err (TooManyPools f.line)
-added_to f pools (Some p) = if nat_lt LICENCE_LIMIT (p.count + f.count) then Err (BadCount f.line) else Ok (raised (line_key f) f.count pools)
+added_to f pools (Some p) = if nat_lt LICENCE_LIMIT (p.count + f.count) then Err (BadCount f.line) else Ok (pools_with_more (line_key f) f.count pools)
 
 -- the count of a line is added to its pool, or makes it
-abbrev pub added : FeatureLine → List Pool → Result (List Pool) LicenceFault
-added f pools = added_to f pools (find (λ p. same_key (line_key f) (pool_key p)) pools)
+abbrev pub pools_with_line : FeatureLine → List Pool → Result (List Pool) LicenceFault
+pools_with_line f pools = added_to f pools (find (λ p. same_key (line_key f) (pool_key p)) pools)
 
 abbrev pub noted : ℕ → NoteKind → Sofar → Sofar
 noted line kind s = record s { notes = s.notes ++ (record { line = line; kind = kind }) ∷ [] }
@@ -48,17 +48,17 @@ with_pools s (Ok pools) = Ok (record s { pools = pools })
 with_pools s (Err fault) = Err fault
 
 abbrev pub counted_or_locked : Sofar → FeatureLine → Result Sofar LicenceFault
-counted_or_locked s f = if f.count == 0 then Ok (noted f.line NodeLocked s) else with_pools s (added f s.pools)
+counted_or_locked s f = if f.count == 0 then Ok (noted f.line NodeLocked s) else with_pools s (pools_with_line f s.pools)
 
-abbrev pub taken : Sofar → FeatureLine → Result Sofar LicenceFault
-taken s f =
+abbrev pub after_feature : Sofar → FeatureLine → Result Sofar LicenceFault
+after_feature s f =
     if f.is_feature
     then (if has_name f.name s.features then Ok (noted f.line SecondFeature s) else counted_or_locked (record s { features = with_name s.features f.name }) f)
     else counted_or_locked s f
 
 -- the next line is taken
 abbrev pub stepped : Sofar → Judged → Result Sofar LicenceFault
-stepped s (Ok (Feature f)) = taken s f
+stepped s (Ok (Feature f)) = after_feature s f
 stepped s (Ok Nothing) = Ok s
 stepped s (Ok (Unserved line)) = Ok (noted line NotServed s)
 stepped s (Err fault) = Err fault

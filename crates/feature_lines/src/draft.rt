@@ -4,7 +4,7 @@ ghost use Rattle.std.specs.List.{position_from};
 ghost use Rattle.lic_text.specs.Reads.{IsFaultOf};
 ghost use Rattle.feature_lines.specs.Draft.{sofar_of};
 ghost use Rattle.feature_lines.specs.Licence.{date_of, fault_told, line_key, pool_key, pool_with, same_date, same_key};
-ghost use Rattle.feature_lines.specs.Steps.{added, counted_or_locked, noted, stepped, taken};
+ghost use Rattle.feature_lines.specs.Steps.{pools_with_line, counted_or_locked, noted, stepped, after_feature};
 
 use crate::fault::LicenceFault;
 use crate::line::{FeatureLine, Said};
@@ -73,8 +73,8 @@ fn first_pool(feature: &FeatureLine) -> Pool
 
 /// Adds the count of a line to its pool, or makes that pool.
 fn add(pools: &mut Vec<Pool>, feature: &FeatureLine) -> Result<(), LicenceFault>
-    ensures ok { OnOk result (added feature.now pools.old.items ≡ Ok pools.new.items) }
-    ensures err { IfErr result (IsFaultOf fault_told (added feature.now pools.old.items)) }
+    ensures ok { OnOk result (pools_with_line feature.now pools.old.items ≡ Ok pools.new.items) }
+    ensures err { IfErr result (IsFaultOf fault_told (pools_with_line feature.now pools.old.items)) }
 {
     let Some(at) = place_of(feature, pools.as_slice()) else {
         if pools.len() >= POOL_LIMIT {
@@ -113,8 +113,8 @@ fn count_or_lock(draft: &mut Draft, feature: &FeatureLine) -> Result<(), Licence
 
 /// Takes a FEATURE or INCREMENT line.
 fn take_feature(draft: &mut Draft, feature: &FeatureLine) -> Result<(), LicenceFault>
-    ensures ok { OnOk result (taken (sofar_of draft.old) feature.now ≡ Ok (sofar_of draft.new)) }
-    ensures err { IfErr result (IsFaultOf fault_told (taken (sofar_of draft.old) feature.now)) }
+    ensures ok { OnOk result (after_feature (sofar_of draft.old) feature.now ≡ Ok (sofar_of draft.new)) }
+    ensures err { IfErr result (IsFaultOf fault_told (after_feature (sofar_of draft.old) feature.now)) }
 {
     if feature.is_feature {
         let is_first = add_name(&mut draft.features, feature.name)?;

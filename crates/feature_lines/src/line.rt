@@ -1,7 +1,7 @@
 ghost use Rattle.std.specs.Prelude.{◌≡◌};
 ghost use Rattle.lic_text.specs.Left.{words_left};
-ghost use Rattle.lic_text.specs.LinesLeft.{shown};
-ghost use Rattle.feature_lines.specs.Line.{count_of, feature_of, judged, keyword_of, said_of, terms_of, version_of};
+ghost use Rattle.lic_text.specs.LinesLeft.{item_view};
+ghost use Rattle.feature_lines.specs.Line.{count_of, feature_of, said_or_fault, keyword_of, said_of, terms_of, version_of};
 
 use crate::date::read_expiry;
 use crate::fault::LicenceFault;
@@ -184,7 +184,7 @@ fn read_words(line: u32, words: Words<'_>) -> Result<Said, LicenceFault>
 
 /// What a logical line says, or its fault.
 pub(crate) fn read_line(line: Result<Line<'_>, TextFault>) -> Result<Said, LicenceFault>
-    ensures { result ≡ judged (shown line.entry) }
+    ensures { result ≡ said_or_fault (item_view line.entry) }
 {
     match line {
         Ok(line) => read_words(line.first(), line.words()),

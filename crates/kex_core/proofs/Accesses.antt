@@ -3,7 +3,7 @@ use Rattle.std.proofs.Common.{◌≡◌, ◌≢◌, ℕ, ◌+◌, ◌-◌, ◌<�
 use Rattle.kex_core.specs.declared.place.Place.{Place}
 use Rattle.kex_core.specs.declared.place.Place.TheVariants.{Out, Dec, Mark, Look, Spin, Naming, Named, Holding, Clearing, Inc, Unmark}
 use Rattle.kex_core.specs.Nets.{Plan, Valid}
-use Rattle.kex_core.specs.Worlds.{Machine, due, found, after, move, run, opening, Parties}
+use Rattle.kex_core.specs.Worlds.{Machine, due, value_found, after, move, run, opening, Parties}
 use Rattle.kex_core.specs.Laws.{Kept}
 use Rattle.kex_core.specs.Costs.{cost, bound, is_spin, kept_at, firsts_after, firsts}
 use Rattle.kex_core.proofs.Sums.{same_or, chosen, eq_test, ne_test, yes_is, no_is, put_here, put_else}
@@ -38,21 +38,21 @@ never_out net p (Inc j) z = cc
 never_out net p (Unmark j) z = cc
 
 module _ (net : Plan) (valid : Valid net) (p : ℕ) (mine : p < net.parties) where
-  place_here : (w : Machine) → (move net w p).place p ≡ after net p (due net p (w.place p)) (found w p (due net p (w.place p)))
-  place_here w = ap (λ (v : Machine). v.place p) (row_is net w p (due net p (w.place p))) ∙ put_here w.place p (after net p (due net p (w.place p)) (found w p (due net p (w.place p))))
+  place_here : (w : Machine) → (move net w p).place p ≡ after net p (due net p (w.place p)) (value_found w p (due net p (w.place p)))
+  place_here w = ap (λ (v : Machine). v.place p) (row_is net w p (due net p (w.place p))) ∙ put_here w.place p (after net p (due net p (w.place p)) (value_found w p (due net p (w.place p))))
 
   place_else : (w : Machine) (q : ℕ) → p ≢ q → (move net w q).place p ≡ w.place p
-  place_else w q d = ap (λ (v : Machine). v.place p) (row_is net w q (due net q (w.place q))) ∙ put_else w.place q (after net q (due net q (w.place q)) (found w q (due net q (w.place q)))) p d
+  place_else w q d = ap (λ (v : Machine). v.place p) (row_is net w q (due net q (w.place q))) ∙ put_else w.place q (after net q (due net q (w.place q)) (value_found w q (due net q (w.place q)))) p d
 
   mine_low : (w : Machine) → Kept net w → (n : ℕ) → n ≤ cost net p (w.place p)
       → kept_at ((move net w p).place p) (n + 1 - is_spin (due net p (w.place p))) ≤ cost net p ((move net w p).place p)
   mine_low w kept n h = let here = place_here w in ⊎_elim
-      (λ (o : after net p (due net p (w.place p)) (found w p (due net p (w.place p))) ≡ Out).
+      (λ (o : after net p (due net p (w.place p)) (value_found w p (due net p (w.place p))) ≡ Out).
       let z : kept_at ((move net w p).place p) (n + 1 - is_spin (due net p (w.place p))) ≡ 0 = ap (λ (d : Place). kept_at d (n + 1 - is_spin (due net p (w.place p)))) (here ∙ o) in omega arith)
-      (λ (b : n + 1 ≤ cost net p (after net p (due net p (w.place p)) (found w p (due net p (w.place p)))) + is_spin (due net p (w.place p))).
-      let c : cost net p ((move net w p).place p) ≡ cost net p (after net p (due net p (w.place p)) (found w p (due net p (w.place p)))) = ap (cost net p) here in
+      (λ (b : n + 1 ≤ cost net p (after net p (due net p (w.place p)) (value_found w p (due net p (w.place p)))) + is_spin (due net p (w.place p))).
+      let c : cost net p ((move net w p).place p) ≡ cost net p (after net p (due net p (w.place p)) (value_found w p (due net p (w.place p)))) = ap (cost net p) here in
       let k = kept_at_le ((move net w p).place p) (n + 1 - is_spin (due net p (w.place p))) in omega arith)
-      (firsts_step net valid w kept p mine (due net p (w.place p)) refl n (found w p (due net p (w.place p))) (never_out net p (w.place p)) h)
+      (firsts_step net valid w kept p mine (due net p (w.place p)) refl n (value_found w p (due net p (w.place p))) (never_out net p (w.place p)) h)
 
   step_low : (w : Machine) → Kept net w → (q n : ℕ) → n ≤ cost net p (w.place p) → firsts_after net w p q n ≤ cost net p ((move net w q).place p)
   step_low w kept q n h = ⊎_elim

@@ -4,7 +4,7 @@ use Rattle.std.proofs.lemmas.Bool.Decides.{nat_tests}
 use Rattle.kex_core.specs.declared.place.Place.{Place}
 use Rattle.kex_core.specs.declared.place.Place.TheVariants.{Out, Dec, Mark, Look, Spin, Naming, Named, Holding, Clearing, Inc, Unmark}
 use Rattle.kex_core.specs.Nets.{Plan, Valid, over, before}
-use Rattle.kex_core.specs.Worlds.{Machine, put, due, passed, back, found, after, x_after, q_after, bit_after, card_after, accessed}
+use Rattle.kex_core.specs.Worlds.{Machine, put, due, passed, back, value_found, after, x_after, q_after, bit_after, card_after, accessed}
 use Rattle.kex_core.specs.Laws.{Stage, Placed, Waits}
 use Rattle.kex_core.proofs.Thresholds.{counted_to, within_to, between_to, below, reaches, owns, holds, counted, between, between_others, KeptTo}
 use Rattle.kex_core.proofs.Sums.{same_or, chosen, eq_test, eq_from, yes_is, put_here, put_else, put_at, over_le, over_same, over_lt, over_lt_two, over_one, over_has, over_but, over_some}
@@ -156,7 +156,7 @@ module _ (net : Plan) (valid : Valid net) (w : Machine) (kept : KeptTo net w) (p
   spot = due net p (w.place p)
 
   abbrev next : Place
-  next = after net p spot (found w p spot)
+  next = after net p spot (value_found w p spot)
 
   -- the world after the access
   abbrev moved : Machine
@@ -208,7 +208,7 @@ module _ (net : Plan) (valid : Valid net) (w : Machine) (kept : KeptTo net w) (p
       let d = count_local net valid p mine w spot spot_placed dec_room j l in omega arith
 
   placed_after : (q : ℕ) → q < net.parties → Placed net q (place q)
-  placed_after = at_place (λ (q : ℕ) (d : Place). Placed net q d) (placed_local net valid p mine spot (found w p spot) spot_placed) (λ q l _. kept.placed q l)
+  placed_after = at_place (λ (q : ℕ) (d : Place). Placed net q d) (placed_local net valid p mine spot (value_found w p spot) spot_placed) (λ q l _. kept.placed q l)
 
   -- where a counter comes to its end: it was there, or this access brought it there
   x_cases : (j : ℕ) → x_after spot w.x j ≡ 0 → (w.x j ≡ 0) ⊎ ((spot ≡ Dec j) × (w.x j ≡ 1))
@@ -248,8 +248,8 @@ module _ (net : Plan) (valid : Valid net) (w : Machine) (kept : KeptTo net w) (p
       go (Inc i) e = inl refl
       go (Unmark i) e = ⊎_elim (λ (k : j ≡ i). inr (inr (e ∙ ap Unmark (sym k)), put_at w.q i (p + 1) j k)) (λ (k : j ≢ i). inl (put_else w.q i (p + 1) j k)) (same_or j i)
 
-  here_now : (d e : Place) → spot ≡ d → after net p d (found w p d) ≡ e → place p ≡ e
-  here_now d e a b = place_here ∙ (ap (λ (r : Place). after net p r (found w p r)) a ∙ b)
+  here_now : (d e : Place) → spot ≡ d → after net p d (value_found w p d) ≡ e → place p ≡ e
+  here_now d e a b = place_here ∙ (ap (λ (r : Place). after net p r (value_found w p r)) a ∙ b)
 
   choose_yes : (b : Bool) (x y : Place) → b ≡ true → cond b x y ≡ x
   choose_yes true x y e = refl
@@ -289,7 +289,7 @@ module _ (net : Plan) (valid : Valid net) (w : Machine) (kept : KeptTo net w) (p
   between_stays : (j : ℕ) → j < net.stages → spot ≢ Unmark j → between net w j ≤ over net.parties (λ q. below net q (between_to net.stages (place q)) j)
   between_stays j l d = let a = sums (λ (q : ℕ) (d : Place). below net q (between_to net.stages d) j) in
       let c = due_below net valid p mine (between_to net.stages) (usual_between net valid p mine) (split net p) (w.place p) j l in
-      let b = between_local net valid p mine spot (found w p spot) spot_placed j l d in omega arith
+      let b = between_local net valid p mine spot (value_found w p spot) spot_placed j l d in omega arith
 
   -- a place Spin after the move
   spin_cases : (j : ℕ) → next ≡ Spin j → ((spot ≡ Look j) × (w.x j ≡ 0)) ⊎ ((spot ≡ Spin j) × (w.q j ≡ p + 1))
@@ -302,7 +302,7 @@ module _ (net : Plan) (valid : Valid net) (w : Machine) (kept : KeptTo net w) (p
       no_back : (i j : ℕ) → back net p i ≡ Spin j → ⊥
       no_back i j = chosen (λ (q : Place). q ≡ Spin j → ⊥) (eqb (net.start p) i) Out (Inc (before net p i)) (λ _ h. cc) (λ _ h. cc)
 
-      go : (d : Place) → spot ≡ d → after net p d (found w p d) ≡ Spin j → ((spot ≡ Look j) × (w.x j ≡ 0)) ⊎ ((spot ≡ Spin j) × (w.q j ≡ p + 1))
+      go : (d : Place) → spot ≡ d → after net p d (value_found w p d) ≡ Spin j → ((spot ≡ Look j) × (w.x j ≡ 0)) ⊎ ((spot ≡ Spin j) × (w.q j ≡ p + 1))
       go Out s h = absurd (cc)
       go (Dec i) s h = absurd (chosen (λ (q : Place). q ≡ Spin j → ⊥) (eqb (w.x i) 1) (Mark i) (passed net i) (λ _ h. cc) (λ _. no_pass i j) h)
       go (Mark i) s h = absurd (cc)
@@ -358,8 +358,8 @@ module _ (net : Plan) (valid : Valid net) (w : Machine) (kept : KeptTo net w) (p
 
   names_step : (i : ℕ) → i + 1 < net.width → over net.parties (λ q. reaches (i + 1) (place q)) + (i + 1) ≤ net.width
   names_step i l = let a = sums (λ (q : ℕ) (d : Place). reaches (i + 1) d) in let k = kept.names (i + 1) l in let u = due_reach i p (w.place p) in ⊎_elim
-      (λ (t : (spot ≡ Naming i) × (found w p spot ≢ 0)).
-      let n : w.bit i ≢ 0 = subst (λ (d : Place). found w p d ≢ 0) t.0 t.1 in let b = kept.bits i l in
+      (λ (t : (spot ≡ Naming i) × (value_found w p spot ≢ 0)).
+      let n : w.bit i ≢ 0 = subst (λ (d : Place). value_found w p d ≢ 0) t.0 t.1 in let b = kept.bits i l in
       let o = over_some net.parties (λ (q : ℕ). owns i (w.place q)) (omega arith) in
       let r = owner_reach i (w.place (o.0)) o.2 in
       let g = due_names i (omega arith) in
@@ -369,8 +369,8 @@ module _ (net : Plan) (valid : Valid net) (w : Machine) (kept : KeptTo net w) (p
       (let c : reaches i spot ≡ 1 = ap (reaches i) t.0 ∙ at_least i in let d : reaches (i + 1) spot ≡ 0 = ap (reaches (i + 1)) t.0 ∙ at_none i in omega arith)
       (let c = owner_due (o.0) i (w.place (o.0)) o.2 in let d : reaches i (due net (o.0) (w.place (o.0))) ≡ reaches i (w.place (o.0)) = ap (reaches i) c in let x = r.0 in let y = r.1 in omega arith) in
       let most = reach_most (i + 1) next in omega arith)
-      (λ (h : spot ≡ Naming i → found w p spot ≡ 0). let b = reach_local net valid p mine i spot (found w p spot) h in omega arith)
-      (naming_or spot i (found w p spot))
+      (λ (h : spot ≡ Naming i → value_found w p spot ≡ 0). let b = reach_local net valid p mine i spot (value_found w p spot) h in omega arith)
+      (naming_or spot i (value_found w p spot))
     where
       at_least : (i : ℕ) → reaches i (Naming i) ≡ 1
       at_least i = grind (arith, nat_tests)

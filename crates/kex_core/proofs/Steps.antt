@@ -4,7 +4,7 @@ use Rattle.std.proofs.lemmas.Bool.Decides.{nat_tests}
 use Rattle.kex_core.specs.declared.place.Place.{Place}
 use Rattle.kex_core.specs.declared.place.Place.TheVariants.{Out, Dec, Mark, Look, Spin, Naming, Named, Holding, Clearing, Inc, Unmark}
 use Rattle.kex_core.specs.Nets.{Plan, Valid, on_path, before}
-use Rattle.kex_core.specs.Worlds.{Machine, put, due, passed, back, found, after, x_after, bit_after, card_after}
+use Rattle.kex_core.specs.Worlds.{Machine, put, due, passed, back, value_found, after, x_after, bit_after, card_after}
 use Rattle.kex_core.specs.Laws.{Stage, Placed}
 use Rattle.kex_core.proofs.Thresholds.{counted_to, between_to, passed_to, below, reaches, owns, holds}
 use Rattle.kex_core.proofs.Sums.{same_or, chosen, eq_test, ne_test, eq_from, ne_from, put_else, put_at, yes_is, no_is}
@@ -46,7 +46,7 @@ module _ (net : Plan) (valid : Valid net) (p : ℕ) (mine : p < net.parties) whe
   at_below j k s e = (below_yes net p (j + 1) k (subst (λ (i : ℕ). on_path net p i ≡ true) (sym e) s.1) (omega arith), below_no net p j k (λ _ h. absurd (omega arith)))
 
   pub count_local : (w : Machine) (d : Place) → Placed net p d → ((j : ℕ) → d ≡ Dec j → 0 < w.x j) → (k : ℕ) → k < net.stages
-      → x_after d w.x k + below net p (counted_to net.stages (after net p d (found w p d))) k ≡ w.x k + below net p (counted_to net.stages d) k
+      → x_after d w.x k + below net p (counted_to net.stages (after net p d (value_found w p d))) k ≡ w.x k + below net p (counted_to net.stages d) k
   count_local w Out h z k l = refl
   count_local w (Dec j) h z k l =
       let a : below net p (counted_to net.stages (after net p (Dec j) (w.x j))) k ≡ below net p (j + 1) k =
@@ -180,7 +180,7 @@ module _ (net : Plan) (valid : Valid net) (p : ℕ) (mine : p < net.parties) whe
   holds_back k j = chosen (λ (q : Place). holds k q ≡ 0) (eqb (net.start p) j) Out (Inc (before net p j)) (λ _. refl) (λ _. refl)
 
   pub owns_local : (w : Machine) (d : Place) (k : ℕ) → k + 1 < net.width → w.bit k ≤ 1 → owns k d ≤ w.bit k
-      → owns k (after net p d (found w p d)) + w.bit k ≡ owns k d + bit_after d w.bit k
+      → owns k (after net p d (value_found w p d)) + w.bit k ≡ owns k d + bit_after d w.bit k
   owns_local w Out k l b o = refl
   owns_local w (Dec j) k l b o = ap (λ (t : ℕ). t + w.bit k) (chosen (λ (q : Place). owns k q ≡ 0) (eqb (w.x j) 1) (Mark j) (passed net j) (λ _. refl) (λ _. owns_passed k j l))
   owns_local w (Mark j) k l b o = refl
@@ -208,7 +208,7 @@ module _ (net : Plan) (valid : Valid net) (p : ℕ) (mine : p < net.parties) whe
   owns_local w (Unmark j) k l b o = ap (λ (t : ℕ). t + w.bit k) (owns_back k j)
 
   pub holds_local : (w : Machine) (d : Place) (k : ℕ) → (d ≡ Named k → w.card k ≡ 0) → holds k d ≤ w.card k → w.card k ≤ 1
-      → holds k (after net p d (found w p d)) + w.card k ≡ holds k d + card_after d w.card k
+      → holds k (after net p d (value_found w p d)) + w.card k ≡ holds k d + card_after d w.card k
   holds_local w Out k n o l = refl
   holds_local w (Dec j) k n o l = ap (λ (t : ℕ). t + w.card k) (chosen (λ (q : Place). holds k q ≡ 0) (eqb (w.x j) 1) (Mark j) (passed net j) (λ _. refl) (λ _. holds_passed k j))
   holds_local w (Mark j) k n o l = refl

@@ -5,7 +5,7 @@ use Rattle.std.proofs.lemmas.Grind.{common_steps}
 use Rattle.kex_core.specs.declared.place.Place.{Place}
 use Rattle.kex_core.specs.declared.place.Place.TheVariants.{Out, Dec, Mark, Look, Spin, Naming, Named, Holding, Clearing, Inc, Unmark}
 use Rattle.kex_core.specs.Nets.{Plan}
-use Rattle.kex_core.specs.Worlds.{Machine, put, due, found, after, x_after, q_after, bit_after, card_after, accessed, move}
+use Rattle.kex_core.specs.Worlds.{Machine, put, due, value_found, after, x_after, q_after, bit_after, card_after, accessed, move}
 use Rattle.kex_core.specs.Laws.{Placed, Kept}
 use Rattle.kex_core.specs.Shapes.{Sheet, plan, IsNet, State, machine, IsWorld, HasWord}
 use Rattle.kex_core.proofs.Steps.{placed_due}
@@ -47,7 +47,7 @@ module _ (s : State) (world : IsWorld s) (p : ℕ) (mine : p < s.net.parties) (d
     pub bit : (machine t).bit ≡ bit_after d (machine s).bit
     pub card : (machine t).card ≡ card_after d (machine s).card
     pub places : t.places ≡ set s.places p a
-    pub after : a ≡ after (plan s.net) p d (found (machine s) p d)
+    pub after : a ≡ after (plan s.net) p d (value_found (machine s) p d)
     pub counters : length t.counters ≡ length s.counters
     pub spin_words : length t.spin_words ≡ length s.spin_words
     pub bits : length t.bits ≡ length s.bits

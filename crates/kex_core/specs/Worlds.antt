@@ -45,18 +45,18 @@ abbrev pub back : Plan → ℕ → ℕ → Place
 back net p j = (if net.start p == j then Out else Inc (before net p j))
 
 -- what the access that is due finds; of a store, what it stores
-abbrev pub found : Machine → ℕ → Place → ℕ
-found w p (Dec j) = w.x j
-found w p (Inc j) = w.x j
-found w p (Look j) = w.x j
-found w p (Spin j) = w.q j
-found w p (Mark j) = p + 1
-found w p (Unmark j) = p + 1
-found w p (Naming i) = w.bit i
-found w p (Named s) = w.card s
-found w p (Holding s) = w.card s
-found w p (Clearing s) = 0
-found w p Out = 0
+abbrev pub value_found : Machine → ℕ → Place → ℕ
+value_found w p (Dec j) = w.x j
+value_found w p (Inc j) = w.x j
+value_found w p (Look j) = w.x j
+value_found w p (Spin j) = w.q j
+value_found w p (Mark j) = p + 1
+value_found w p (Unmark j) = p + 1
+value_found w p (Naming i) = w.bit i
+value_found w p (Named s) = w.card s
+value_found w p (Holding s) = w.card s
+value_found w p (Clearing s) = 0
+value_found w p Out = 0
 
 -- the place after the access of this place, which found n
 abbrev pub after : Plan → ℕ → Place → ℕ → Place
@@ -131,7 +131,7 @@ accessed net w p d = record {
   q = q_after p d w.q;
   bit = bit_after d w.bit;
   card = card_after d w.card;
-  place = put w.place p (after net p d (found w p d));
+  place = put w.place p (after net p d (value_found w p d));
 }
 
 -- p goes to this place

@@ -2,7 +2,7 @@ ghost use Rattle.std.specs.Prelude.{◌≡◌, false, ◌≢◌, ◌+◌, ◌<�
 ghost use Rattle.kex_core.specs.declared.place.Place.TheVariants.{Dec};
 ghost use Rattle.kex_core.specs.Shapes.{plan, State, machine_of, machine, number_of, HasWord, access_of, IsWorld};
 ghost use Rattle.kex_core.specs.Laws.{Kept, Safe};
-ghost use Rattle.kex_core.specs.Worlds.{due, found, x_after, q_after, bit_after, card_after, move, opening};
+ghost use Rattle.kex_core.specs.Worlds.{due, value_found, x_after, q_after, bit_after, card_after, move, opening};
 ghost use Rattle.kex_core.specs.declared.limits.TheConstants.{PARTY_LIMIT};
 
 use crate::net::Net;
@@ -26,7 +26,7 @@ impl Words {
     fn found(&self, p: u32, place: Place) -> u64
         requires word { HasWord (length self.now.counters.items) (length self.now.bits.items) (length self.now.cards.items) place }
         requires words { length self.now.spin_words.items ≡ length self.now.counters.items }
-        ensures { result ≡ found (machine_of self.now.places.items self.now.counters.items self.now.spin_words.items self.now.bits.items self.now.cards.items) p place }
+        ensures { result ≡ value_found (machine_of self.now.places.items self.now.counters.items self.now.spin_words.items self.now.bits.items self.now.cards.items) p place }
     {
         match place {
             Place::Out | Place::Clearing(_) => 0,

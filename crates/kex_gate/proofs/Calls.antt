@@ -15,7 +15,7 @@ use Rattle.kex_gate.specs.declared.view.View.{View}
 use Rattle.kex_gate.specs.Passes.{Gate, Guest, Way, IsSetUp, sessions, resting, slow_seats, own_pass, visited, room_word, bit_word}
 use Rattle.pass_roles.specs.Roles.{number_of}
 use Rattle.kex_gate.specs.Rule.{IsGate}
-use Rattle.kex_gate.specs.Steps.{Self, spot_at, last_of, IsSession, IsIdle, IsLane, StandsAt, GoesOn, guest_of, way_of, pass_at, is_fast, came, tested, went_out, went_home, cleared, gave, gave_slow, entered, Meets}
+use Rattle.kex_gate.specs.Steps.{Self, spot_at, last_of, IsSession, IsIdle, IsLane, StandsAt, GoesOn, guest_of, way_of, pass_at, is_fast, meets_others, tested, went_out, went_home, cleared, gave, gave_slow, entered_view, Meets}
 use Rattle.kex_gate.proofs.Words.{comes, test_bit, clear_bit, gives, gives_slow}
 use Rattle.kex_gate.proofs.Moving.{leaves_slot, comes_home, last_snoc}
 
@@ -30,8 +30,8 @@ module _ (id : TableId) (told seats : TableNet) (n m : ℕ) (self : Gate) (seat_
   pub width_is : self.seats.net.width ≡ m
   width_is = ap (λ (g : Gate). g.seats.net.width) (sym self_is) ∙ up.width
 
-  pub takes_place : (seat slots : ℕ) → me.0.spot ≡ Free → (seat_id ≡ id) × (room_word < id.words) × Allows (IsGate told) slots seat me room_word (λ k. (k + (2 ^ 64 - 1)) % 2 ^ 64) (came (step slots room_word 1 0 none) me)
-  takes_place seat slots free = (same_id, (let a = up.words in let b = up.one in omega arith), subst (λ (t : TableNet). Allows (IsGate t) slots seat me room_word (λ k. (k + (2 ^ 64 - 1)) % 2 ^ 64) (came (step slots room_word 1 0 none) me)) told_is (comes me is slots seat free))
+  pub takes_place : (seat slots : ℕ) → me.0.spot ≡ Free → (seat_id ≡ id) × (room_word < id.words) × Allows (IsGate told) slots seat me room_word (λ k. (k + (2 ^ 64 - 1)) % 2 ^ 64) (meets_others (step slots room_word 1 0 none) me)
+  takes_place seat slots free = (same_id, (let a = up.words in let b = up.one in omega arith), subst (λ (t : TableNet). Allows (IsGate t) slots seat me room_word (λ k. (k + (2 ^ 64 - 1)) % 2 ^ 64) (meets_others (step slots room_word 1 0 none) me)) told_is (comes me is slots seat free))
 
   pub tests_bit : (seat slots w i : ℕ) → me.0.spot ≡ Testing i → i + 1 < self.seats.net.width → w ≡ bit_word i → (seat_id ≡ id) × (w < id.words) × Allows (IsGate told) slots seat me w (λ _. 1) (tested (step slots w 1 0 none) me)
   tests_bit seat slots w i e low w_is = (same_id, (let a = up.words in let b = width_is in omega arith), subst (λ (x : TableNet × ℕ). Allows (IsGate x.0) slots seat me x.1 (λ _. 1) (tested (step slots x.1 1 0 none) me)) (λ k. (told_is k, sym w_is k)) (test_bit me is slots seat i e))
@@ -223,8 +223,8 @@ pub last_taken : (p h : Pass) (q : Pass) (k : ℕ) → GoesOn p h (k ∷ []) →
 last_taken p h q k on got = ap last_of (got ∙ on.got) ∙ last_snoc p.got k
 
 -- what a session met that took its place, and where it came
-pub took_place : (m m' : Self) (n : ℕ) → (k : ℕ) × Meets m.0 k × (n + k ≡ 256 + m.0.seats.net.width) × (m' ≡ (entered m.0 n k, m.1))
-    → Meets m.0 m'.0.met × (n + m'.0.met ≡ 256 + m.0.seats.net.width) × (m' ≡ (entered m.0 n m'.0.met, m.1))
+pub took_place : (m m' : Self) (n : ℕ) → (k : ℕ) × Meets m.0 k × (n + k ≡ 256 + m.0.seats.net.width) × (m' ≡ (entered_view m.0 n k, m.1))
+    → Meets m.0 m'.0.met × (n + m'.0.met ≡ 256 + m.0.seats.net.width) × (m' ≡ (entered_view m.0 n m'.0.met, m.1))
 took_place m m' n t =
     let k_is : t.0 ≡ m'.0.met = sym (ap (λ (z : Self). z.0.met) t.3) in
-    subst (λ (k : ℕ). Meets m.0 k × (n + k ≡ 256 + m.0.seats.net.width) × (m' ≡ (entered m.0 n k, m.1))) k_is (t.1, t.2, t.3)
+    subst (λ (k : ℕ). Meets m.0 k × (n + k ≡ 256 + m.0.seats.net.width) × (m' ≡ (entered_view m.0 n k, m.1))) k_is (t.1, t.2, t.3)

@@ -7,7 +7,7 @@ use Rattle.pass_roles.specs.Roles.{total}
 use Rattle.kex_words.proofs.Times.{times_append}
 use Rattle.kex_gate.specs.Passes.{Guest, session_numbers, slow_of}
 use Rattle.kex_gate.specs.Rule.{IsGate, fast_worth}
-use Rattle.kex_gate.specs.Steps.{Self, both, spent, guest_of, IsIdle, IsGathered}
+use Rattle.kex_gate.specs.Steps.{Self, both, spent_view, guest_of, IsIdle, IsGathered}
 use Rattle.kex_gate.proofs.Counts.{total_append}
 use Rattle.kex_gate.proofs.Join.{joins}
 
@@ -51,11 +51,11 @@ module _ (seats : TableNet) (g : Guest) (own : Pass) (id : TableId) (w : Self) (
 
 -- from what is known where a session is joined
 pub joins_at : (table : TableId) (key seats : TableNet) (done : List Guest) (seat_id other_id : TableId) (id gone : ℕ) (m w : Self) (g : Guest) (own : Pass) → key ≡ seats → IsGathered seats done m → seat_id ≡ table → IsIdle own g w → other_id ≡ g.gate.id → g.gate.id ≡ table → 0 < table.words
-    → (seat_id ≡ table) × (other_id ≡ table) × (w.1 ≡ []) × (0 < table.words) × Joins (IsGate key) id m.0 gone w.0 (both m.0 w.0) spent
+    → (seat_id ≡ table) × (other_id ≡ table) × (w.1 ≡ []) × (0 < table.words) × Joins (IsGate key) id m.0 gone w.0 (both m.0 w.0) spent_view
 joins_at table key seats done seat_id other_id id gone m w g own told so seat_is idle other_is gate_is words = (
   seat_is,
   other_is ∙ gate_is,
   idle.hand,
   words,
-  subst (λ (t : TableNet). Joins (IsGate t) id m.0 gone w.0 (both m.0 w.0) spent) (so.seats_is ∙ sym told) (joins id gone m.0 w.0 so.role idle.session.role idle.spot_is),
+  subst (λ (t : TableNet). Joins (IsGate t) id m.0 gone w.0 (both m.0 w.0) spent_view) (so.seats_is ∙ sym told) (joins id gone m.0 w.0 so.role idle.session.role idle.spot_is),
 )

@@ -15,19 +15,19 @@ use Rattle.kex_gate.specs.declared.view.Spot.TheVariants.{Free}
 use Rattle.kex_gate.specs.declared.view.View.{View}
 use Rattle.kex_gate.specs.Passes.{sessions}
 use Rattle.kex_gate.specs.Rule.{IsGate, IsHome, IsAway, Fits, numbered, busy, within, reaches, owns, is_out, kept_at, busy_in, within_in, reaches_in, owns_in, is_out_in, weight, numbered_in, fast_in, kept_in, fast_worth}
-use Rattle.kex_gate.specs.Steps.{both, spent}
+use Rattle.kex_gate.specs.Steps.{both, spent_view}
 use Rattle.kex_gate.proofs.Counts.{total_append}
 use Rattle.kex_gate.proofs.Keeps.{known}
 
-pub joins : (id gone : ℕ) (v w : View) → v.role ≡ Party (number_of v.role) → w.role ≡ Party (number_of w.role) → w.spot ≡ Free → Joins (IsGate v.seats) id v gone w (both v w) spent
+pub joins : (id gone : ℕ) (v w : View) → v.role ≡ Party (number_of v.role) → w.role ≡ Party (number_of w.role) → w.spot ≡ Free → Joins (IsGate v.seats) id v gone w (both v w) spent_view
 joins id gone v w is_v is_w free s r at apart at' =
     let p : ℕ = number_of v.role in let q : ℕ = number_of w.role in let n : ℕ = sessions v.seats.net in
-    let b : View = both v w in let views' : List View = set (set s.views id b) gone spent in
+    let b : View = both v w in let views' : List View = set (set s.views id b) gone spent_view in
     let at_w : get_elem? s.views gone ≡ some w = sym (set_else s.views id gone b apart) ∙ at' in
     let kv = known s id v r at is_v in
-    let total_is : (f : View → ℕ) → total f views' + f v + f w ≡ total f s.views + f b + f spent = λ f.
-    let t = total_set f s.views id v b at in let u = total_set f (set s.views id b) gone w spent at' in omega arith in
-    let same : (f : View → ℕ) → f b ≡ f v → f spent ≡ 0 → f w ≡ 0 → total f views' ≡ total f s.views = λ f e z y. let t = total_is f in omega arith in
+    let total_is : (f : View → ℕ) → total f views' + f v + f w ≡ total f s.views + f b + f spent_view = λ f.
+    let t = total_set f s.views id v b at in let u = total_set f (set s.views id b) gone w spent_view at' in omega arith in
+    let same : (f : View → ℕ) → f b ≡ f v → f spent_view ≡ 0 → f w ≡ 0 → total f views' ≡ total f s.views = λ f e z y. let t = total_is f in omega arith in
     let K : ℕ → View → Type 0 = λ j d. Fits v.seats r.made r.maker_seat j d d.role in
     let here : K id b = subst (λ (x : Role). Fits v.seats r.made r.maker_seat id b x) (sym is_v) record { seats_is = refl; stands = kv.stands } in
     let no_maker : (i x : ℕ) (d : View) → get_elem? s.views i ≡ some d → d.role ≡ Party x → r.maker_seat ≢ i = λ i x d at_d is_d e.
@@ -55,8 +55,8 @@ joins id gone v w is_v is_w free s r at apart at' =
           let e : weight n b ≡ 1 + length (q ∷ (w.joined ++ v.joined)) = ap (weigh n (length b.joined)) is_v in let f = length-append w.joined v.joined in omega arith;
       dealt = λ x near. all_numbers x ∙ r.dealt x near;
       undealt = λ x far. all_numbers x ∙ r.undealt x far;
-      maker = (r.maker.0, set_else (set s.views id b) gone r.maker_seat spent (no_maker gone q w at_w is_w) ∙ (set_else s.views id r.maker_seat b (no_maker id p v at is_v) ∙ r.maker.1), r.maker.2);
-      each = each_set K (set s.views id b) gone spent (record { spot_is = refl; visits = refl })
+      maker = (r.maker.0, set_else (set s.views id b) gone r.maker_seat spent_view (no_maker gone q w at_w is_w) ∙ (set_else s.views id r.maker_seat b (no_maker id p v at is_v) ∙ r.maker.1), r.maker.2);
+      each = each_set K (set s.views id b) gone spent_view (record { spot_is = refl; visits = refl })
           (λ j d other e. ⊎_elim (λ (t : (j ≡ id) × (b ≡ d)). subst (λ (z : ℕ × View). K z.0 z.1) (λ i. (sym t.0 i, t.1 i)) here)
           (λ (t : (j ≢ id) × (get_elem? s.views j ≡ some d)). r.each j d t.1) (at_set s.views id j b d e));
     }

@@ -13,7 +13,7 @@ use Rattle.pass_roles.specs.declared.role.Role.TheVariants.{Maker, Party, Spent}
 use Rattle.kex_gate.specs.declared.view.View.{View}
 use Rattle.kex_gate.specs.Passes.{sessions}
 use Rattle.kex_gate.specs.Rule.{IsGate, IsHome, IsAway, Fits, Making, numbered, busy_in, within_in, reaches_in, owns_in, is_out_in, weight, numbered_in, fast_in, kept_in}
-use Rattle.kex_gate.specs.Steps.{dealt, newcomer}
+use Rattle.kex_gate.specs.Steps.{dealt_view, newcomer}
 
 -- the other views, once one more pass was dealt
 others_dealt : (seats : TableNet) (made maker_seat j : ℕ) (d : View) (role : Role) → j ≢ maker_seat → Fits seats made maker_seat j d role → Fits seats (made + 1) maker_seat j d role
@@ -21,11 +21,11 @@ others_dealt seats made maker_seat j d (Maker m) other f = absurd (other f.seat_
 others_dealt seats made maker_seat j d (Party q) other f = record { seats_is = f.seats_is; stands = f.stands }
 others_dealt seats made maker_seat j d Spent other f = record { spot_is = f.spot_is; visits = f.visits }
 
-pub deals : (id : ℕ) (v : View) (k : ℕ) → v.role ≡ Maker k → k < sessions v.seats.net → Splits (IsGate v.seats) id v (dealt v) (newcomer v)
+pub deals : (id : ℕ) (v : View) (k : ℕ) → v.role ≡ Maker k → k < sessions v.seats.net → Splits (IsGate v.seats) id v (dealt_view v) (newcomer v)
 deals id v k is room s r at =
     let n : ℕ = sessions v.seats.net in
     let known : Making v.seats r.made r.maker_seat id k v = subst (λ (x : Role). Fits v.seats r.made r.maker_seat id v x) is (r.each id v at) in
-    let last : ℕ = length s.views in let w : View = dealt v in let x : View = newcomer v in
+    let last : ℕ = length s.views in let w : View = dealt_view v in let x : View = newcomer v in
     let now : k ≡ r.made = known.made_is in
     let w_role : w.role ≡ Maker (r.made + 1) = ap (λ (z : Role). Maker (made_of z + 1)) is ∙ ap (λ (z : ℕ). Maker (z + 1)) now in
     let x_role : x.role ≡ Party r.made = ap (λ (z : Role). Party (made_of z)) is ∙ ap Party now in

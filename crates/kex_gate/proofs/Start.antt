@@ -12,7 +12,7 @@ use Rattle.pass_roles.proofs.Members.{each_snoc}
 use Rattle.kex_gate.specs.declared.view.View.{View}
 use Rattle.kex_gate.specs.Passes.{Gate, Guest, sessions, resting, fresh, room_word, bit_word, IsSetUp}
 use Rattle.kex_gate.specs.Rule.{IsGate, Fits, home_worth}
-use Rattle.kex_gate.specs.Steps.{Self, maker, dealt, newcomer, guest_of, AreInRow, IsIdle}
+use Rattle.kex_gate.specs.Steps.{Self, maker, dealt_view, newcomer, guest_of, AreInRow, IsIdle}
 use Rattle.kex_gate.proofs.Split.{deals}
 
 pub got_at : {X : Type 0} (l : List X) (i : ℕ) (x : X) → slice_get l i ≡ Some x → get_elem? l i ≡ some x
@@ -76,8 +76,8 @@ row_on t first [] m row e = subst (AreInRow t (first + 1)) (sym e) (λ k lt. abs
 row_on t first (x ∷ xs) m row e = subst (AreInRow t (first + 1)) (sym e) (λ k lt. row (suc k) (omega arith) ∙ ap (λ (j : ℕ). Some (resting t j [])) (omega arith))
 
 -- a new session, which is Free
-pub dealt_on : (m m' : Self) (t : TableNet) (i : ℕ) → m ≡ (maker t i, []) → m' ≡ (dealt m.0, m.1) → m' ≡ (maker t (i + 1), [])
-dealt_on m m' t i e f = f ∙ ap (λ (z : Self). let w : View = dealt z.0 in (w, z.1)) e
+pub dealt_on : (m m' : Self) (t : TableNet) (i : ℕ) → m ≡ (maker t i, []) → m' ≡ (dealt_view m.0, m.1) → m' ≡ (maker t (i + 1), [])
+dealt_on m m' t i e f = f ∙ ap (λ (z : Self). let w : View = dealt_view z.0 in (w, z.1)) e
 
 pub came_new : (m m' : Self) (gate : Gate) (i : ℕ) → m ≡ (maker gate.seats i, []) → m' ≡ (newcomer m.0, []) → m' ≡ (newcomer (maker gate.seats i), [])
 came_new m m' gate i e f = f ∙ ap (λ (z : Self). let w : View = newcomer z.0 in let c : List (ℕ × Option Pass) = [] in (w, c)) e
@@ -89,14 +89,14 @@ pub rests_new : (id : TableId) (m : Self) (gate : Gate) (i : ℕ) (p : Pass) →
 rests_new id m gate i p e p_is = subst (λ (z : Self). IsIdle p (guest_of id z.0) z) (sym e) record { session = record { role = refl; joined = refl }; spot_is = refl; hand = refl; own_is = p_is }
 
 pub splits_at : (id : TableId) (told seats : TableNet) (n m : ℕ) (self : Gate) (seat_id : TableId) (me : Self) (seat i : ℕ) → IsSetUp id told seats n m → record { id = id; seats = seats } ≡ self → seat_id ≡ self.id → me ≡ (maker self.seats i, []) → i < n
-    → (seat_id ≡ id) × (0 < id.words) × Splits (IsGate told) seat me.0 (dealt me.0) (newcomer me.0)
+    → (seat_id ≡ id) × (0 < id.words) × Splits (IsGate told) seat me.0 (dealt_view me.0) (newcomer me.0)
 splits_at id told seats n m self seat_id me seat i up self_is own me_is l =
     let told_is : self.seats ≡ told = sym (ap (λ (g : Gate). g.seats) self_is) ∙ sym up.told_is in
     let here : me.0 ≡ maker told i = ap (λ (z : Self). z.0) me_is ∙ ap (λ (t : TableNet). maker t i) told_is in
     let p : told.net.parties ≡ n + m = ap (λ (t : TableNet). t.net.parties) up.told_is ∙ up.parties in let w : told.net.width ≡ m = ap (λ (t : TableNet). t.net.width) up.told_is ∙ up.width in (
       own ∙ sym (ap (λ (g : Gate). g.id) self_is),
       (let a = up.words in omega arith),
-      subst (λ (v : View). Splits (IsGate told) seat v (dealt v) (newcomer v)) (sym here) (deals seat (maker told i) i refl (omega arith)),
+      subst (λ (v : View). Splits (IsGate told) seat v (dealt_view v) (newcomer v)) (sym here) (deals seat (maker told i) i refl (omega arith)),
     )
 
 -- where the first is taken out of a list, the others move down

@@ -13,7 +13,7 @@ use Rattle.kex_gate.specs.declared.view.Visit.{Visit}
 use Rattle.kex_gate.specs.declared.view.View.{View}
 use Rattle.kex_gate.specs.Passes.{room_word, bit_word}
 use Rattle.kex_gate.specs.Rule.{GateState, IsGate, MayStand, busy, within, reaches, owns, is_out, kept_at, up_to, just, busy_in, within_in, reaches_in, owns_in, fast_worth}
-use Rattle.kex_gate.specs.Steps.{Self, moved, entered, spot_at, spot_tested, came, tested, cleared, gave, gave_slow}
+use Rattle.kex_gate.specs.Steps.{Self, view_at, entered_view, spot_at, spot_tested, meets_others, tested, cleared, gave, gave_slow}
 use Rattle.kex_gate.proofs.Counts.{total_le, total_le3, total_append, tests, reaches_within, further_on}
 use Rattle.kex_gate.proofs.Keeps.{few_busy, few_within, low_at, total_is, changes_plain}
 
@@ -48,7 +48,7 @@ module _ (me : Self) (is : me.0.role ≡ Party (number_of me.0.role)) where
       (λ i l. let t = total_is s id v r at is a v.visits v.kept (total busy_in s.views) (owns_in i) in let z : owns i v.spot ≡ 0 = ap (owns i) free in let q = no_own i l in let o = r.bits i l in
       let g = get_or-set_other s.words room_word (bit_word i) y 0 (λ e. omega arith) in (omega arith, omega arith))
 
-  pub came_all : (s : GateState) (id : ℕ) (r : IsGate v.seats s) → get_elem? s.views id ≡ some v → v.spot ≡ Free → After s id room_word ((get_or s.words room_word 0 + (2 ^ 64 - 1)) % 2 ^ 64) (entered v (get_or s.words room_word 0) (total busy_in s.views))
+  pub came_all : (s : GateState) (id : ℕ) (r : IsGate v.seats s) → get_elem? s.views id ≡ some v → v.spot ≡ Free → After s id room_word ((get_or s.words room_word 0 + (2 ^ 64 - 1)) % 2 ^ 64) (entered_view v (get_or s.words room_word 0) (total busy_in s.views))
   came_all s id r at free =
       let n : ℕ = get_or s.words room_word 0 in let y : ℕ = (n + (2 ^ 64 - 1)) % 2 ^ 64 in
       let room = r.room in let some_seats = r.some_seats in let busy_within = few_within v.seats s r in let first = reach_first s.views in let inside = r.inside in
@@ -61,9 +61,9 @@ module _ (me : Self) (is : me.0.role ≡ Party (number_of me.0.role)) where
       (λ t. let one = eq_from 1 m t in comes_at s id r at free (Taking 0) (omega arith) refl (λ i l. absurd (omega arith)) (λ i. refl) refl (omega arith) behind)
       (λ g. let more = ne_from 1 m g in comes_at s id r at free (Testing 0) (omega arith) refl (λ i l. refl) (λ i. refl) refl (omega arith) behind))
 
-  pub comes : (slots id : ℕ) → v.spot ≡ Free → Allows (IsGate v.seats) slots id me room_word (λ n. (n + (2 ^ 64 - 1)) % 2 ^ 64) (came (step slots room_word 1 0 none) me)
+  pub comes : (slots id : ℕ) → v.spot ≡ Free → Allows (IsGate v.seats) slots id me room_word (λ n. (n + (2 ^ 64 - 1)) % 2 ^ 64) (meets_others (step slots room_word 1 0 none) me)
   comes slots id free s r _ at _ = (
-    entered v (get_or s.words room_word 0) (total busy_in s.views),
+    entered_view v (get_or s.words room_word 0) (total busy_in s.views),
     keeps,
     tt,
     came_all s id r at free,
@@ -71,7 +71,7 @@ module _ (me : Self) (is : me.0.role ≡ Party (number_of me.0.role)) where
   )
 
   -- the bit i was clear: its number is the session's
-  sets_clear : (s : GateState) (id i : ℕ) (r : IsGate v.seats s) → get_elem? s.views id ≡ some v → v.spot ≡ Testing i → get_or s.words (bit_word i) 0 ≡ 0 → After s id (bit_word i) 1 (moved v (Taking i))
+  sets_clear : (s : GateState) (id i : ℕ) (r : IsGate v.seats s) → get_elem? s.views id ≡ some v → v.spot ≡ Testing i → get_or s.words (bit_word i) 0 ≡ 0 → After s id (bit_word i) 1 (view_at v (Taking i))
   sets_clear s id i r at e clear =
       let low : i + 1 < m = low_at s id v r at is (Testing i) e in let wide = r.wide in let own = r.bits i low in
       changes_plain s id v r at is (Taking i) v.visits v.kept v.met (set s.words (bit_word i) 1) (omega arith) (length-set s.words (bit_word i) 1)
@@ -87,7 +87,7 @@ module _ (me : Self) (is : me.0.role ≡ Party (number_of me.0.role)) where
   -- it was set: the session goes on to the next number, and the owner of this one stays behind
   sets_again : (s : GateState) (id i : ℕ) (r : IsGate v.seats s) → get_elem? s.views id ≡ some v → v.spot ≡ Testing i → get_or s.words (bit_word i) 0 ≢ 0 → (a : Spot)
       → MayStand m v.met a → busy a ≡ 1 → within a ≡ 1 → ((j : ℕ) → reaches j a ≡ up_to j (i + 1)) → ((j : ℕ) → j + 1 < m → owns j a ≡ 0) → ((j : ℕ) → is_out j a ≡ 0) → kept_at a v.kept ≡ []
-      → After s id (bit_word i) 1 (moved v a)
+      → After s id (bit_word i) 1 (view_at v a)
   sets_again s id i r at e set_bit a low' a_busy a_within a_reaches a_owns a_out a_kept =
       let low : i + 1 < m = low_at s id v r at is (Testing i) e in let wide = r.wide in let own = r.bits i low in
       let one : get_or s.words (bit_word i) 0 ≡ 1 = omega arith in
@@ -106,20 +106,20 @@ module _ (me : Self) (is : me.0.role ≡ Party (number_of me.0.role)) where
       let x : get_or s.words (bit_word j) 0 ≡ 1 = ap (λ (k : ℕ). get_or s.words (bit_word k) 0) h ∙ one in (omega arith, omega arith))
       (λ (d : j ≢ i). let g = get_or-set_other s.words (bit_word i) (bit_word j) 1 0 (λ z. d (omega arith)) in (omega arith, omega arith)) (same_or j i))
 
-  pub tested_all : (s : GateState) (id i : ℕ) (r : IsGate v.seats s) → get_elem? s.views id ≡ some v → v.spot ≡ Testing i → After s id (bit_word i) 1 (moved v (spot_tested m (get_or s.words (bit_word i) 0) (Testing i)))
+  pub tested_all : (s : GateState) (id i : ℕ) (r : IsGate v.seats s) → get_elem? s.views id ≡ some v → v.spot ≡ Testing i → After s id (bit_word i) 1 (view_at v (spot_tested m (get_or s.words (bit_word i) 0) (Testing i)))
   tested_all s id i r at e =
       let n : ℕ = get_or s.words (bit_word i) 0 in let low : i + 1 < m = low_at s id v r at is (Testing i) e in
-      chosen (λ (q : Spot). After s id (bit_word i) 1 (moved v q)) (eqb n 0) (Taking i) (spot_at m (i + 1))
+      chosen (λ (q : Spot). After s id (bit_word i) 1 (view_at v q)) (eqb n 0) (Taking i) (spot_at m (i + 1))
       (λ t. sets_clear s id i r at e (eq_from n 0 t))
-      (λ f. chosen (λ (q : Spot). After s id (bit_word i) 1 (moved v q)) (eqb (i + 1 + 1) m) (Taking (i + 1)) (Testing (i + 1))
+      (λ f. chosen (λ (q : Spot). After s id (bit_word i) 1 (view_at v q)) (eqb (i + 1 + 1) m) (Taking (i + 1)) (Testing (i + 1))
       (λ t. let last = eq_from (i + 1 + 1) m t in sets_again s id i r at e (ne_from n 0 f) (Taking (i + 1)) (omega arith) refl refl (λ j. refl) (λ j l. omega arith) (λ j. refl) refl)
       (λ g. let on = ne_from (i + 1 + 1) m g in sets_again s id i r at e (ne_from n 0 f) (Testing (i + 1)) (omega arith) refl refl (λ j. refl) (λ j l. refl) (λ j. refl) refl))
 
   pub test_bit : (slots id i : ℕ) → v.spot ≡ Testing i → Allows (IsGate v.seats) slots id me (bit_word i) (λ _. 1) (tested (step slots (bit_word i) 1 0 none) me)
   test_bit slots id i e s r _ at _ = let n : ℕ = get_or s.words (bit_word i) 0 in
-      (moved v (spot_tested m n v.spot), keeps, tt, subst (λ (q : Spot). After s id (bit_word i) 1 (moved v q)) (sym (ap (spot_tested m n) e)) (tested_all s id i r at e), refl)
+      (view_at v (spot_tested m n v.spot), keeps, tt, subst (λ (q : Spot). After s id (bit_word i) 1 (view_at v q)) (sym (ap (spot_tested m n) e)) (tested_all s id i r at e), refl)
 
-  pub cleared_all : (s : GateState) (id i : ℕ) (r : IsGate v.seats s) → get_elem? s.views id ≡ some v → v.spot ≡ Clearing i → After s id (bit_word i) 0 (moved v Giving)
+  pub cleared_all : (s : GateState) (id i : ℕ) (r : IsGate v.seats s) → get_elem? s.views id ≡ some v → v.spot ≡ Clearing i → After s id (bit_word i) 0 (view_at v Giving)
   cleared_all s id i r at e =
       let low : i + 1 < m = low_at s id v r at is (Clearing i) e in let wide = r.wide in let own = r.bits i low in
       let here : owns i v.spot ≤ total (owns_in i) s.views = total_has (owns_in i) s.views id v at in
@@ -134,7 +134,7 @@ module _ (me : Self) (is : me.0.role ≡ Party (number_of me.0.role)) where
       (λ (d : j ≢ i). let g = get_or-set_other s.words (bit_word i) (bit_word j) 0 0 (λ z. d (omega arith)) in (omega arith, omega arith)) (same_or j i))
 
   pub clear_bit : (slots id i : ℕ) → v.spot ≡ Clearing i → Allows (IsGate v.seats) slots id me (bit_word i) (λ _. 0) (λ _. cleared (step slots (bit_word i) 0 0 none) me 0)
-  clear_bit slots id i e s r _ at _ = (moved v Giving, keeps, tt, cleared_all s id i r at e, refl)
+  clear_bit slots id i e s r _ at _ = (view_at v Giving, keeps, tt, cleared_all s id i r at e, refl)
 
   -- a session gives its place back, and has noted these visits
   gives_at : (s : GateState) (id : ℕ) (r : IsGate v.seats s) → get_elem? s.views id ≡ some v → busy v.spot ≡ 1 → ((i : ℕ) → owns i v.spot ≡ 0) → ((i : ℕ) → is_out i v.spot ≡ 0)
@@ -152,7 +152,7 @@ module _ (me : Self) (is : me.0.role ≡ Party (number_of me.0.role)) where
       (λ i l. let t = total_is s id v r at is Free vs v.kept v.met (reaches_in i) in let q = r.behind i l in omega arith)
       (λ i l. let t = total_is s id v r at is Free vs v.kept v.met (owns_in i) in let z = no_own i in let o = r.bits i l in let g = get_or-set_other s.words room_word (bit_word i) y 0 (λ e. omega arith) in (omega arith, omega arith))
 
-  pub gave_all : (s : GateState) (id : ℕ) (r : IsGate v.seats s) → get_elem? s.views id ≡ some v → v.spot ≡ Giving → After s id room_word ((get_or s.words room_word 0 + 1) % 2 ^ 64) (moved v Free)
+  pub gave_all : (s : GateState) (id : ℕ) (r : IsGate v.seats s) → get_elem? s.views id ≡ some v → v.spot ≡ Giving → After s id room_word ((get_or s.words room_word 0 + 1) % 2 ^ 64) (view_at v Free)
   gave_all s id r at e = gives_at s id r at (ap busy e) (λ i. ap (owns i) e) (λ i. ap (is_out i) e) (ap (λ (x : Spot). kept_at x v.kept) e) v.visits (λ f. refl)
 
   pub gave_slow_all : (s : GateState) (id x : ℕ) (r : IsGate v.seats s) → get_elem? s.views id ≡ some v → v.spot ≡ Slow → After s id room_word ((get_or s.words room_word 0 + 1) % 2 ^ 64) (record v { spot = Free; visits = v.visits ++ (record { seat = x; fast = false }) ∷ [] })
@@ -160,7 +160,7 @@ module _ (me : Self) (is : me.0.role ≡ Party (number_of me.0.role)) where
       (λ f. let q = total_append (fast_worth f) v.visits (record { seat = x; fast = false } ∷ []) in omega arith)
 
   pub gives : (slots id : ℕ) → v.spot ≡ Giving → Allows (IsGate v.seats) slots id me room_word (λ n. (n + 1) % 2 ^ 64) (gave (step slots room_word 1 0 none) me)
-  gives slots id e s r _ at _ = (moved v Free, keeps, tt, gave_all s id r at e, refl)
+  gives slots id e s r _ at _ = (view_at v Free, keeps, tt, gave_all s id r at e, refl)
 
   pub gives_slow : (slots id x : ℕ) → v.spot ≡ Slow → Allows (IsGate v.seats) slots id me room_word (λ n. (n + 1) % 2 ^ 64) (gave_slow x (step slots room_word 1 0 none) me)
   gives_slow slots id x e s r _ at _ = (record v { spot = Free; visits = v.visits ++ (record { seat = x; fast = false }) ∷ [] }, keeps, tt, gave_slow_all s id x r at e, refl)

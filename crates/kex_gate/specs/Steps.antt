@@ -32,12 +32,12 @@ no_seats = record { id = no_table; net = no_net }
 abbrev pub maker : TableNet → ℕ → View
 maker t m = record { seats = t; role = Maker m; spot = Free; visits = []; kept = []; met = 0; joined = [] }
 
-abbrev pub spent : View
-spent = record { seats = no_seats; role = Spent; spot = Free; visits = []; kept = []; met = 0; joined = [] }
+abbrev pub spent_view : View
+spent_view = record { seats = no_seats; role = Spent; spot = Free; visits = []; kept = []; met = 0; joined = [] }
 
 -- a split leaves the maker with this
-abbrev pub dealt : View → View
-dealt v = record v { role = Maker (made_of v.role + 1) }
+abbrev pub dealt_view : View → View
+dealt_view v = record v { role = Maker (made_of v.role + 1) }
 
 -- and the new seat with this
 abbrev pub newcomer : View → View
@@ -48,8 +48,8 @@ abbrev pub both : View → View → View
 both v w = record v { visits = v.visits ++ w.visits; joined = number_of w.role ∷ (w.joined ++ v.joined) }
 
 -- the view at another spot
-abbrev pub moved : View → Spot → View
-moved v a = record v { spot = a }
+abbrev pub view_at : View → Spot → View
+view_at v a = record v { spot = a }
 
 -- whoever is to come to bit i of m seats: the last has none
 abbrev pub spot_at : ℕ → ℕ → Spot
@@ -106,15 +106,15 @@ pub record Meets (v : View) (k : ℕ) : Type 0 where
   pub others : k ≡ total busy_in state.views
 
 -- the view of a session that found n in the count of room and met k others
-abbrev pub entered : View → ℕ → ℕ → View
-entered v n k = record v { spot = spot_found v.seats.net.width n; met = k }
+abbrev pub entered_view : View → ℕ → ℕ → View
+entered_view v n k = record v { spot = spot_found v.seats.net.width n; met = k }
 
 -- the count of room tells how many others it met
-abbrev pub came : Step (Option Pass) → Self → ℕ → Self → Type 0
-came st m n m' = (k : ℕ) × Meets m.0 k × (n + k ≡ FULL + m.0.seats.net.width) × (m' ≡ (entered m.0 n k, m.1))
+abbrev pub meets_others : Step (Option Pass) → Self → ℕ → Self → Type 0
+meets_others st m n m' = (k : ℕ) × Meets m.0 k × (n + k ≡ FULL + m.0.seats.net.width) × (m' ≡ (entered_view m.0 n k, m.1))
 
 abbrev pub tested : Step (Option Pass) → Self → ℕ → Self → Type 0
-tested st m n m' = m' ≡ (moved m.0 (spot_tested m.0.seats.net.width n m.0.spot), m.1)
+tested st m n m' = m' ≡ (view_at m.0 (spot_tested m.0.seats.net.width n m.0.spot), m.1)
 
 -- the pass left its slot, and what it had taken is known
 abbrev pub went_out : Step (Option Pass) → Self → ℕ → Self → Type 0
@@ -125,10 +125,10 @@ abbrev pub went_home : Step (Option Pass) → Self → ℕ → Self → Type 0
 went_home st m n m' = m' ≡ (record m.0 { spot = spot_home m.0.seats.net.width (index_of m.0.spot); visits = m.0.visits ++ (record { seat = last_in m.1; fast = true }) ∷ []; kept = [] }, rest m.1)
 
 abbrev pub cleared : Step (Option Pass) → Self → ℕ → Self → Type 0
-cleared st m n m' = m' ≡ (moved m.0 Giving, m.1)
+cleared st m n m' = m' ≡ (view_at m.0 Giving, m.1)
 
 abbrev pub gave : Step (Option Pass) → Self → ℕ → Self → Type 0
-gave st m n m' = m' ≡ (moved m.0 Free, m.1)
+gave st m n m' = m' ≡ (view_at m.0 Free, m.1)
 
 -- the same by a session that had the seat x by the slow way
 abbrev pub gave_slow : ℕ → Step (Option Pass) → Self → ℕ → Self → Type 0

@@ -50,9 +50,9 @@ pub(crate) type GateSeat = Seat<Option<Out>, View>;
 pub(crate) struct Takes;
 
 impl Play<Option<Out>, View> for Takes {
-    ghost use Rattle.kex_gate.specs.Steps.{came};
+    ghost use Rattle.kex_gate.specs.Steps.{meets_others};
 
-    ghost then = { came };
+    ghost then = { meets_others };
 }
 
 /// Sets a bit: the pass is the session's to take where the bit was clear.
@@ -126,9 +126,9 @@ impl<J: Noting> Play<Option<Out>, View> for GivesSlow<J> {
 pub(crate) struct Deal;
 
 impl Split<View> for Deal {
-    ghost use Rattle.kex_gate.specs.Steps.{dealt, newcomer};
+    ghost use Rattle.kex_gate.specs.Steps.{dealt_view, newcomer};
 
-    ghost left = { dealt };
+    ghost left = { dealt_view };
 
     ghost right = { newcomer };
 }
@@ -137,9 +137,9 @@ impl Split<View> for Deal {
 pub(crate) struct Gather;
 
 impl Join<View> for Gather {
-    ghost use Rattle.kex_gate.specs.Steps.{both, spent};
+    ghost use Rattle.kex_gate.specs.Steps.{both, spent_view};
 
     ghost both = { both };
 
-    ghost spent = { spent };
+    ghost spent = { spent_view };
 }

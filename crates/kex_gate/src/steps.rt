@@ -2,7 +2,7 @@
 ghost use Rattle.std.specs.Prelude.{◌≡◌, ◌+◌, ◌<◌, if◌then◌else◌, [], ◌∷◌, ◌++◌, true, false, None};
 ghost use Rattle.kex_gate.specs.declared.view.Spot.TheVariants.{Free, Testing, Taking, Fast, Clearing, Giving, Slow};
 ghost use Rattle.kex_gate.specs.Passes.{sessions, resting};
-ghost use Rattle.kex_gate.specs.Steps.{moved, entered, Meets, spot_at, spot_home, last_of, IsSession};
+ghost use Rattle.kex_gate.specs.Steps.{view_at, entered_view, Meets, spot_at, spot_home, last_of, IsSession};
 ghost use Rattle.kex_gate.specs.declared.gate.TheConstants.{FULL};
 
 use crate::gate::{
@@ -22,7 +22,7 @@ impl GatedSeats {
         ensures own { seat.new.table_id ≡ seat.old.table_id }
         ensures met { Meets seat.old.me.0 seat.new.me.0.met }
         ensures told { result + seat.new.me.0.met ≡ FULL + self.now.seats.net.width }
-        ensures came { seat.new.me ≡ (entered seat.old.me.0 result seat.new.me.0.met, seat.old.me.1) }
+        ensures came { seat.new.me ≡ (entered_view seat.old.me.0 result seat.new.me.0.met, seat.old.me.1) }
     {
         self.table.shared.fetch_sub::<Takes>(seat, ROOM, 1)
     }
@@ -34,7 +34,7 @@ impl GatedSeats {
         requires session { IsSession seat.old.me.0 }
         requires first { seat.old.me.0.spot ≡ spot_at self.now.seats.net.width 0 }
         ensures own { seat.new.table_id ≡ seat.old.table_id }
-        ensures found { (result < self.now.seats.net.width) × (seat.new.me ≡ (moved seat.old.me.0 (Taking result), seat.old.me.1)) }
+        ensures found { (result < self.now.seats.net.width) × (seat.new.me ≡ (view_at seat.old.me.0 (Taking result), seat.old.me.1)) }
     {
         for i in 0..self.width - 1 {
             if self.test(seat, i) {
@@ -51,7 +51,7 @@ impl GatedSeats {
         requires session { IsSession seat.old.me.0 }
         requires testing { (i + 1 < self.now.seats.net.width) × (seat.old.me.0.spot ≡ Testing i) }
         ensures own { seat.new.table_id ≡ seat.old.table_id }
-        ensures tested { seat.new.me ≡ (moved seat.old.me.0 (if result then Taking i else spot_at self.now.seats.net.width (i + 1)), seat.old.me.1) }
+        ensures tested { seat.new.me ≡ (view_at seat.old.me.0 (if result then Taking i else spot_at self.now.seats.net.width (i + 1)), seat.old.me.1) }
     {
         let bit = self.table.shared.swap::<Tests>(seat, bit_word(i), 1);
         bit == 0
@@ -96,7 +96,7 @@ impl GatedSeats {
         requires session { IsSession seat.old.me.0 }
         requires clearing { (i + 1 < self.now.seats.net.width) × (seat.old.me.0.spot ≡ Clearing i) }
         ensures own { seat.new.table_id ≡ seat.old.table_id }
-        ensures cleared { seat.new.me ≡ (moved seat.old.me.0 Giving, seat.old.me.1) }
+        ensures cleared { seat.new.me ≡ (view_at seat.old.me.0 Giving, seat.old.me.1) }
     {
         self.table.shared.store::<Clears>(seat, bit_word(i), 0);
     }
@@ -108,7 +108,7 @@ impl GatedSeats {
         requires session { IsSession seat.old.me.0 }
         requires giving { seat.old.me.0.spot ≡ Giving }
         ensures own { seat.new.table_id ≡ seat.old.table_id }
-        ensures gave { seat.new.me ≡ (moved seat.old.me.0 Free, seat.old.me.1) }
+        ensures gave { seat.new.me ≡ (view_at seat.old.me.0 Free, seat.old.me.1) }
     {
         self.table.shared.fetch_add::<Gives>(seat, ROOM, 1);
     }

@@ -12,7 +12,7 @@ use Rattle.kex_net.specs.Limits.{limit}
 use Rattle.kex_core.proofs.Thresholds.{below}
 use Rattle.kex_core.proofs.Sums.{same_or, over_same, over_zero, over_one}
 use Rattle.kex_core.proofs.Moves.{below_yes, below_no, below_same, next_below, start_low, path_start, path_next}
-use Rattle.kex_net.specs.Trees.{groups, bottom, above, falling, leading, met, level_caps, level_nexts, level_meets, Stages, through, levels_over, IsTree}
+use Rattle.kex_net.specs.Trees.{groups, bottom, above, falling, leading, stage_met, level_caps, level_nexts, level_meets, Stages, through, levels_over, IsTree}
 use Rattle.kex_net.proofs.ChainLemmas.{min_facts}
 use Rattle.kex_net.proofs.Pieces.{length-falling}
 use Rattle.kex_net.proofs.TreeNets.{length-meets, length-groups, tree_valid}
@@ -116,7 +116,7 @@ pair_falls h top first (suc (suc count)) up r u (suc i) l = let e : first + 1 + 
     subst (λ (v : ℕ). h (get_or (leading (first + 1) (suc count) up) i 0) + 1 ≤ h v) e
     (pair_falls h top (first + 1) (suc count) up (λ k m. let q : first + 1 + k ≡ first + suc k = omega arith in ap h q ∙ r (suc k) (omega arith)) u i (omega arith))
 
-pair_below : (h : ℕ → ℕ) (top first count up : ℕ) → Reads h first (falling (suc top) count) → h up ≤ top → h (met first count up) ≤ top + count
+pair_below : (h : ℕ → ℕ) (top first count up : ℕ) → Reads h first (falling (suc top) count) → h up ≤ top → h (stage_met first count up) ≤ top + count
 pair_below h top first zero up r u = omega arith
 pair_below h top first (suc count) up r u = let a = r 0 (omega arith) in let q : h (first + 0) ≡ h first = ap h (omega arith) in omega arith
 

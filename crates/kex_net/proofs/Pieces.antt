@@ -1,7 +1,7 @@
 -- Pieces of a net: some stages, the groups that come to them, and the groups that they hand up. Pieces in a row, or beside other groups, are pieces.
 use Rattle.std.proofs.Common.{◌≡◌, ◌≢◌, ◌⊎◌, ℕ, zero, suc, ◌+◌, ◌-◌, ◌<◌, ◌≤◌, ◌^◌, min, List, [], ◌∷◌, ◌++◌, length, get_or, sym, refl, subst, ⊎_elim, arith}
 use Rattle.std.proofs.lemmas.List.{length-append, get_or_append_left, get_or-append_right}
-use Rattle.kex_net.specs.Trees.{falling, leading, met}
+use Rattle.kex_net.specs.Trees.{falling, leading, stage_met}
 use Rattle.kex_net.proofs.Flows.{inflow, inflow-append, at_it, not_at, link_add, link_le}
 
 -- The stages from `first` on, with these capacities and next stages, none above `exit`. By the links `ins` come groups of the sizes `from`, and by `outs` go groups of the sizes `to`.
@@ -153,7 +153,7 @@ stages exit m (suc count) first up ins from lead low high some small =
 
 -- a pair of groups
 pub pair : (exit m a b count first up : ℕ) → count ≡ a + b - m → first + count ≤ up → up ≤ exit → 1 ≤ m → a + b < 2 ^ 32
-    → IsPiece exit first (met first count up ∷ met first count up ∷ []) (a ∷ b ∷ []) (falling m count) (leading first count up) (up ∷ []) (min m (a + b) ∷ [])
+    → IsPiece exit first (stage_met first count up ∷ stage_met first count up ∷ []) (a ∷ b ∷ []) (falling m count) (leading first count up) (up ∷ []) (min m (a + b) ∷ [])
 pair exit m a b zero first up e low high some small = record {
   same = refl;
   below = λ j l. let x = not_at up j a (λ q. omega arith) in let y = not_at up j b (λ q. omega arith) in omega arith;

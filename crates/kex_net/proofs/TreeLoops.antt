@@ -2,7 +2,7 @@
 use Rattle.std.proofs.Common.{◌≡◌, ◌≢◌, ◌⊎◌, ℕ, zero, suc, ◌+◌, ◌-◌, ◌*◌, ◌/◌, ◌%◌, ◌<◌, ◌≤◌, min, List, [], ◌∷◌, ◌++◌, length, get_or, take, drop, sum, sym, refl, ap, ◌∙◌, subst, ⊎_elim, inl, inr, arith}
 use Rattle.std.proofs.lemmas.List.{append-nil, append_assoc, drop_more, drop_all, length-drop}
 use Rattle.std.proofs.lemmas.List.Sums.{sum_by-take-drop}
-use Rattle.kex_net.specs.Trees.{groups, above, after_levels, falling, leading, met, level_caps, level_nexts, level_meets, level_below, levels_over, stages_of, AreLevels}
+use Rattle.kex_net.specs.Trees.{groups, above, after_levels, falling, leading, stage_met, level_caps, level_nexts, level_meets, level_below, levels_over, stages_of, AreLevels}
 use Rattle.kex_net.proofs.Flows.{sum-cons}
 
 -- some more of what is wanted were added
@@ -82,9 +82,9 @@ module _ (m first : ℕ) (sizes ups : List ℕ) (p : ℕ) (more : p < length siz
       ∙ ap (λ (x : ℕ). leading first (a + b - m) (get_or ups p 0) ++ level_nexts m x (drop (2 * (p + 1)) sizes) (drop (p + 1) ups)) (sym e))
 
   pub meets_step : (second : ℕ) → second ≡ first + (a + b - m)
-      → level_meets m first (drop (2 * p) sizes) (drop p ups) ≡ (met first (a + b - m) (get_or ups p 0) ∷ met first (a + b - m) (get_or ups p 0) ∷ []) ++ level_meets m second (drop (2 * (p + 1)) sizes) (drop (p + 1) ups)
+      → level_meets m first (drop (2 * p) sizes) (drop p ups) ≡ (stage_met first (a + b - m) (get_or ups p 0) ∷ stage_met first (a + b - m) (get_or ups p 0) ∷ []) ++ level_meets m second (drop (2 * (p + 1)) sizes) (drop (p + 1) ups)
   meets_step second e = ap (λ (v : List ℕ). level_meets m first v (drop p ups)) (two_more sizes p more) ∙ (ap (λ (v : List ℕ). level_meets m first (a ∷ b ∷ drop (2 * (p + 1)) sizes) v) up_is
-      ∙ ap (λ (x : ℕ). met first (a + b - m) (get_or ups p 0) ∷ met first (a + b - m) (get_or ups p 0) ∷ level_meets m x (drop (2 * (p + 1)) sizes) (drop (p + 1) ups)) (sym e))
+      ∙ ap (λ (x : ℕ). stage_met first (a + b - m) (get_or ups p 0) ∷ stage_met first (a + b - m) (get_or ups p 0) ∷ level_meets m x (drop (2 * (p + 1)) sizes) (drop (p + 1) ups)) (sym e))
 
 module _ (m first : ℕ) (sizes ups : List ℕ) (p : ℕ) (end : length sizes / 2 ≤ p) (low : p ≤ length sizes / 2) (same : length (drop p ups) ≡ length (above m (drop (2 * p) sizes))) where
   pub last_up : length sizes % 2 ≡ 1 → length sizes / 2 < length ups

@@ -5,7 +5,7 @@ use Rattle.std.proofs.Math.Nat.{add-div_left, div-eq_of_lt}
 use Rattle.kex_core.specs.Nets.{over, starts}
 use Rattle.kex_core.specs.Shapes.{Sheet, sheet, Sized, plan, IsNet}
 use Rattle.kex_core.proofs.Sums.{same_or}
-use Rattle.kex_net.specs.Trees.{groups, bottom, above, after_levels, falling, leading, met, level_caps, level_nexts, level_meets, Stages, through, levels_over, stages_of, AreLevels, IsTree}
+use Rattle.kex_net.specs.Trees.{groups, bottom, above, after_levels, falling, leading, stage_met, level_caps, level_nexts, level_meets, Stages, through, levels_over, stages_of, AreLevels, IsTree}
 use Rattle.kex_net.proofs.ChainLemmas.{min_facts}
 use Rattle.kex_net.proofs.Flows.{inflow, link, inflow_most, inflow_over, sum-cons, over_split, over_link, not_at}
 use Rattle.kex_net.proofs.Pieces.{IsPiece, in_row, with_behind, with_one, nothing, pair, length-falling}
@@ -29,7 +29,7 @@ within_get lo hi [] i h = omega arith
 within_get lo hi (x ∷ xs) zero h = h.1
 within_get lo hi (x ∷ xs) (suc i) h = within_get lo hi xs i h.2
 
-met_within : (lo hi count up : ℕ) → lo ≤ up → up ≤ hi → lo ≤ hi → (lo ≤ met lo count up) × (met lo count up ≤ hi)
+met_within : (lo hi count up : ℕ) → lo ≤ up → up ≤ hi → lo ≤ hi → (lo ≤ stage_met lo count up) × (stage_met lo count up ≤ hi)
 met_within lo hi zero up a b c = (a, b)
 met_within lo hi (suc count) up a b c = (omega arith, c)
 
@@ -95,7 +95,7 @@ level_piece exit m first (a ∷ b ∷ sizes) (u ∷ ups) e t w some small =
     let rest = level_meets_within m (first + (a + b - m)) exit sizes ups (omega arith) wide in
     in_row exit first (level_meets m first (a ∷ b ∷ sizes) (u ∷ ups)) (a ∷ b ∷ sizes) (falling m (a + b - m)) (leading first (a + b - m) u)
     (u ∷ level_meets m (first + (a + b - m)) sizes ups) (min m (a + b) ∷ sizes) (level_caps m sizes) (level_nexts m (first + (a + b - m)) sizes ups) (u ∷ ups) (min m (a + b) ∷ above m sizes) (first + (a + b - m)) (omega arith)
-    (with_behind exit first (met first (a + b - m) u ∷ met first (a + b - m) u ∷ []) (a ∷ b ∷ []) (falling m (a + b - m)) (leading first (a + b - m) u) (u ∷ []) (min m (a + b) ∷ [])
+    (with_behind exit first (stage_met first (a + b - m) u ∷ stage_met first (a + b - m) u ∷ []) (a ∷ b ∷ []) (falling m (a + b - m)) (leading first (a + b - m) u) (u ∷ []) (min m (a + b) ∷ [])
     (pair exit m a b (a + b - m) first u refl (omega arith) w.1 some (omega arith))
     (level_meets m (first + (a + b - m)) sizes ups) sizes refl refl (λ j q. within_low (first + (a + b - m)) exit (level_meets m (first + (a + b - m)) sizes ups) sizes j (omega arith) rest))
     (with_one exit (first + (a + b - m)) (level_meets m (first + (a + b - m)) sizes ups) sizes (level_caps m sizes) (level_nexts m (first + (a + b - m)) sizes ups) ups (above m sizes)

@@ -36,9 +36,9 @@ leading first (suc zero) up = up ∷ []
 leading first (suc (suc count)) up = (first + 1) ∷ leading (first + 1) (suc count) up
 
 -- the stage that the groups of a pair of so many stages meet: the first of them, or where there is none the one above
-abbrev pub met : ℕ → ℕ → ℕ → ℕ
-met first zero up = up
-met first (suc count) up = first
+abbrev pub stage_met : ℕ → ℕ → ℕ → ℕ
+stage_met first zero up = up
+stage_met first (suc count) up = first
 
 -- The stages of one level, from the left. A pair of sizes a and b has the stages a + b - 1, .., m.
 -- `first` is the level's first stage, and `ups` are the stages that the groups above the level meet.
@@ -58,7 +58,7 @@ abbrev pub level_meets : ℕ → ℕ → List ℕ → List ℕ → List ℕ
 level_meets m first [] ups = []
 level_meets m first (a ∷ sizes) [] = []
 level_meets m first (a ∷ []) (up ∷ ups) = up ∷ []
-level_meets m first (a ∷ b ∷ sizes) (up ∷ ups) = met first (a + b - m) up ∷ met first (a + b - m) up ∷ level_meets m (first + (a + b - m)) sizes ups
+level_meets m first (a ∷ b ∷ sizes) (up ∷ ups) = stage_met first (a + b - m) up ∷ stage_met first (a + b - m) up ∷ level_meets m (first + (a + b - m)) sizes ups
 
 -- the stages of some levels, and the stage that each group meets below them
 pub record Stages : Type 0 where

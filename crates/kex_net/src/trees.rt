@@ -1,7 +1,7 @@
 ghost use Rattle.std.specs.Prelude.{◌≡◌, ℕ, ◌+◌, ◌-◌, ◌/◌, ◌<◌, ◌≤◌, ◌^◌, ◌++◌, [], ◌∷◌, IfOk, OnOk, length, slice_index, min, sum};
 ghost use Rattle.kex_core.specs.Shapes.{sheet};
 ghost use Rattle.kex_core.specs.declared.limits.TheConstants.{PARTY_LIMIT};
-ghost use Rattle.kex_net.specs.Trees.{bottom, above, met, falling, leading, level_caps, level_nexts, level_meets, stages_of, AreLevels, IsTree};
+ghost use Rattle.kex_net.specs.Trees.{bottom, above, stage_met, falling, leading, level_caps, level_nexts, level_meets, stages_of, AreLevels, IsTree};
 
 use crate::stages::{push_falling, push_leading};
 use kex_core::{Net, NoMemory};
@@ -21,7 +21,7 @@ impl Stages {
         requires { first + both < 2 ^ 32 }
         ensures caps { OnOk result (self.new.caps.items ≡ self.old.caps.items ++ falling m (both - m)) }
         ensures nexts { OnOk result (self.new.next.items ≡ self.old.next.items ++ leading first (both - m) up) }
-        ensures meets { OnOk result (self.new.meets.items ≡ self.old.meets.items ++ (met first (both - m) up ∷ met first (both - m) up ∷ [])) }
+        ensures meets { OnOk result (self.new.meets.items ≡ self.old.meets.items ++ (stage_met first (both - m) up ∷ stage_met first (both - m) up ∷ [])) }
     {
         let count = both.saturating_sub(m);
         let meets = if count == 0 { up } else { first };

@@ -6,7 +6,7 @@ use Rattle.atomic_table.specs.Table.{State, step, keeps, Allows}
 use Rattle.kex_core.specs.declared.place.Place.{Place}
 use Rattle.kex_core.specs.declared.place.Place.TheVariants.{Naming, Named, Clearing}
 use Rattle.kex_core.specs.Nets.{Plan}
-use Rattle.kex_core.specs.Worlds.{put, due, found, x_after, q_after, bit_after, card_after, accessed}
+use Rattle.kex_core.specs.Worlds.{put, due, value_found, x_after, q_after, bit_after, card_after, accessed}
 use Rattle.kex_core.specs.Shapes.{plan}
 use Rattle.kex_words.specs.declared.card.Card.{Card}
 use Rattle.pass_roles.specs.declared.role.Role.TheVariants.{Party}
@@ -14,7 +14,7 @@ use Rattle.kex_words.specs.declared.view.View.{View}
 use Rattle.kex_words.specs.Passes.{got_after}
 use Rattle.pass_roles.specs.Roles.{number_of}
 use Rattle.kex_words.specs.Rule.{IsReadOff}
-use Rattle.kex_words.specs.Steps.{Self, next_view, moved}
+use Rattle.kex_words.specs.Steps.{Self, next_view, moves_no_card}
 use Rattle.kex_words.proofs.Places.{word_put}
 use Rattle.kex_words.proofs.Keeps.{told, reads_plain}
 use Rattle.kex_words.proofs.StageWords.{low, free}
@@ -36,7 +36,7 @@ module _ (me : Self) (is : me.0.role ≡ Party (number_of me.0.role)) where
   word_of i = 2 * length v.net.caps + 1 + i
 
   -- a bit is written
-  bit_read : (d : Place) (is_due : due net p v.place ≡ d) (s : St) (id i n y : ℕ) (r : IsReadOff v.net s) (at : get_elem? s.views id ≡ some v) → i + 1 < v.net.width → n ≡ found r.world p d
+  bit_read : (d : Place) (is_due : due net p v.place ≡ d) (s : St) (id i n y : ℕ) (r : IsReadOff v.net s) (at : get_elem? s.views id ≡ some v) → i + 1 < v.net.width → n ≡ value_found r.world p d
       → got_after d v.got ≡ v.got → card_after d r.world.card ≡ r.world.card → x_after d r.world.x ≡ r.world.x → q_after p d r.world.q ≡ r.world.q → bit_after d r.world.bit ≡ put r.world.bit i y → ((k : ℕ) → d ≢ Named k)
       → (r' : IsReadOff v.net record { words = set s.words (word_of i) y; homes = s.homes; views = set s.views id (next_view v n) }) × (r'.world ≡ accessed net r.world p d)
   bit_read d is_due s id i n y r at inside n_is same_got same_card same_x same_q new_bit other = let w : ℕ = word_of i in let wide = r.wide in
@@ -55,9 +55,9 @@ module _ (me : Self) (is : me.0.role ≡ Party (number_of me.0.role)) where
       → (r' : IsReadOff v.net record { words = set s.words (word_of i) 0; homes = s.homes; views = set s.views id (next_view v 0) }) × (r'.world ≡ accessed net r.world p (Clearing i))
   clear_read s id i r at is_due = bit_read (Clearing i) is_due s id i 0 0 r at (low me is s id r at (Clearing i) is_due).0 refl refl refl refl refl refl (λ k e. cc)
 
-  pub tests : (slots id i : ℕ) → due net p v.place ≡ Naming i → Allows (IsReadOff v.net) slots id me (word_of i) (λ _. 1) (moved (step slots (word_of i) 1 0 none) me)
+  pub tests : (slots id i : ℕ) → due net p v.place ≡ Naming i → Allows (IsReadOff v.net) slots id me (word_of i) (λ _. 1) (moves_no_card (step slots (word_of i) 1 0 none) me)
   tests slots id i is_due s r _ at _ = let n : ℕ = get_or s.words (word_of i) 0 in
       (next_view v n, keeps, tt, (test_read s id i r at is_due).0, (told s id v r at is (Naming i) is_due n (r.bit_is i (low me is s id r at (Naming i) is_due).0), refl))
 
-  pub clears : (slots id i : ℕ) → due net p v.place ≡ Clearing i → Allows (IsReadOff v.net) slots id me (word_of i) (λ _. 0) (λ _. moved (step slots (word_of i) 0 0 none) me 0)
+  pub clears : (slots id i : ℕ) → due net p v.place ≡ Clearing i → Allows (IsReadOff v.net) slots id me (word_of i) (λ _. 0) (λ _. moves_no_card (step slots (word_of i) 0 0 none) me 0)
   clears slots id i is_due s r _ at _ = (next_view v 0, keeps, tt, (clear_read s id i r at is_due).0, (told s id v r at is (Clearing i) is_due 0 refl, refl))

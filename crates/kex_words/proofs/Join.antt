@@ -17,7 +17,7 @@ use Rattle.kex_words.specs.declared.view.View.{View}
 use Rattle.kex_words.specs.Passes.{times}
 use Rattle.pass_roles.specs.Roles.{total, number_of, weigh}
 use Rattle.kex_words.specs.Rule.{took_of, weight, Fits, HasNumber, IsHome, IsAway, IsReadOff}
-use Rattle.kex_words.specs.Steps.{spent, both}
+use Rattle.kex_words.specs.Steps.{spent_view, both}
 use Rattle.pass_roles.proofs.Members.{total_set, each_set, set_at}
 use Rattle.kex_words.proofs.Times.{times_append}
 use Rattle.kex_words.proofs.Keeps.{knows}
@@ -61,16 +61,16 @@ has_mine x v w h = (h.0, let a = times_both x (number_of v.role) (number_of w.ro
 has_theirs : (x : ℕ) (v w : View) → v.role ≡ Party (number_of v.role) → HasNumber x w → HasNumber x (both v w)
 has_theirs x v w is h = (is, let a = times_both x (number_of v.role) (number_of w.role) v.joined w.joined in let b = h.1 in omega arith)
 
-pub joins : (id gone : ℕ) (v w : View) → v.role ≡ Party (number_of v.role) → w.role ≡ Party (number_of w.role) → w.place ≡ Out → Joins (IsReadOff v.net) id v gone w (both v w) spent
+pub joins : (id gone : ℕ) (v w : View) → v.role ≡ Party (number_of v.role) → w.role ≡ Party (number_of w.role) → w.place ≡ Out → Joins (IsReadOff v.net) id v gone w (both v w) spent_view
 joins id gone v w is_v is_w out s r at apart at' =
     let p : ℕ = number_of v.role in let q : ℕ = number_of w.role in let n : ℕ = v.net.parties in
-    let b : View = both v w in let views' : List View = set (set s.views id b) gone spent in
+    let b : View = both v w in let views' : List View = set (set s.views id b) gone spent_view in
     let at_w : get_elem? s.views gone ≡ some w = sym (set_else s.views id gone b apart) ∙ at' in
     let kv = knows v.net s r id p v at is_v in let kw = knows v.net s r gone q w at_w is_w in
     let owner' : ℕ → ℕ = moved r.owner gone id in
     let as_much : (k : ℕ) → total (took_of k) views' ≡ total (took_of k) s.views = λ k.
-    let t = total_set (took_of k) s.views id v b at in let u = total_set (took_of k) (set s.views id b) gone w spent at' in let a = times_append k v.got w.got in omega arith in
-    let at_b : get_elem? views' id ≡ some b = set_else (set s.views id b) gone id spent (λ z. apart (sym z)) ∙ set_at s.views id v b at in
+    let t = total_set (took_of k) s.views id v b at in let u = total_set (took_of k) (set s.views id b) gone w spent_view at' in let a = times_append k v.got w.got in omega arith in
+    let at_b : get_elem? views' id ≡ some b = set_else (set s.views id b) gone id spent_view (λ z. apart (sym z)) ∙ set_at s.views id v b at in
     let K : ℕ → View → Type 0 = λ j d. Fits v.net r.world r.made r.maker_seat owner' views' j d d.role in
     let ours : (x : ℕ) → 0 < times x (p ∷ v.joined) → (x < r.made) × (owner' x ≡ id) × (x ≢ p → r.world.place x ≡ Out) = λ x h. let m = kv.numbers x h in (m.0, moved_else r.owner gone id x (λ z. apart (sym z ∙ m.1)) ∙ m.1, m.2) in
     let theirs : (x : ℕ) → 0 < times x (q ∷ w.joined) → (x < r.made) × (owner' x ≡ id) × (x ≢ p → r.world.place x ≡ Out) = λ x h. let m = kw.numbers x h in
@@ -102,17 +102,17 @@ joins id gone v w is_v is_w out s r at apart at' =
       card_is = r.card_is;
       cards = λ k l. ⊎_elim (λ (h : IsHome r.world.card s.homes s.views k). inl (h.0, (h.1.0, h.1.1, h.1.2, h.1.3 ∙ ap (λ (y : ℕ). y % 2 ^ 64) (sym (as_much k))))) (λ (a : IsAway r.world.card s.homes s.views k). inr a) (r.cards k l);
       few = r.few;
-      weights = let t = total_set (weight n) s.views id v b at in let u = total_set (weight n) (set s.views id b) gone w spent at' in let d = r.weights in
+      weights = let t = total_set (weight n) s.views id v b at in let u = total_set (weight n) (set s.views id b) gone w spent_view at' in let d = r.weights in
           let a : weight n v ≡ 1 + length v.joined = ap (weigh n (length v.joined)) is_v in let c : weight n w ≡ 1 + length w.joined = ap (weigh n (length w.joined)) is_w in
           let e : weight n b ≡ 1 + length (q ∷ (w.joined ++ v.joined)) = ap (weigh n (length b.joined)) is_v in let f = length-append w.joined v.joined in omega arith;
-      maker = (r.maker.0, set_else (set s.views id b) gone r.maker_seat spent (no_maker gone q w at_w is_w) ∙ (set_else s.views id r.maker_seat b (no_maker id p v at is_v) ∙ r.maker.1), r.maker.2);
+      maker = (r.maker.0, set_else (set s.views id b) gone r.maker_seat spent_view (no_maker gone q w at_w is_w) ∙ (set_else s.views id r.maker_seat b (no_maker id p v at is_v) ∙ r.maker.1), r.maker.2);
       undealt = r.undealt;
       dealt = λ x l. let k = r.dealt x l in dite (ℕ_discrete (r.owner x) gone)
           (λ e. let is : k.0 ≡ w = some-injective k.0 w (sym k.1 ∙ (ap (get_elem? s.views) e ∙ at_w)) in (b, ap (get_elem? views') (moved_here r.owner gone id x e) ∙ at_b, has_theirs x v w is_v (subst (HasNumber x) is k.2)))
           (λ other. dite (ℕ_discrete (r.owner x) id)
           (λ e. let is : k.0 ≡ v = some-injective k.0 v (sym k.1 ∙ (ap (get_elem? s.views) e ∙ at)) in (b, ap (get_elem? views') (moved_else r.owner gone id x other ∙ e) ∙ at_b, has_mine x v w (subst (HasNumber x) is k.2)))
-          (λ else. (k.0, ap (get_elem? views') (moved_else r.owner gone id x other) ∙ (set_else (set s.views id b) gone (r.owner x) spent other ∙ (set_else s.views id (r.owner x) b else ∙ k.1)), k.2)));
-      each = each_set K (set s.views id b) gone spent (record { got = refl })
+          (λ else. (k.0, ap (get_elem? views') (moved_else r.owner gone id x other) ∙ (set_else (set s.views id b) gone (r.owner x) spent_view other ∙ (set_else s.views id (r.owner x) b else ∙ k.1)), k.2)));
+      each = each_set K (set s.views id b) gone spent_view (record { got = refl })
           (λ j d other e. ⊎_elim (λ (t : (j ≡ id) × (b ≡ d)). subst (λ (z : ℕ × View). K z.0 z.1) (λ i. (sym t.0 i, t.1 i)) here)
           (λ (t : (j ≢ id) × (get_elem? s.views j ≡ some d)). others_joined v.net r.world r.made r.maker_seat id gone r.owner s.views views' j d d.role other as_much (r.each j d t.1))
           (at_set s.views id j b d e));

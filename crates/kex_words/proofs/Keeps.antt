@@ -9,7 +9,7 @@ use Rattle.atomic_table.proofs.Lists.{set_else}
 use Rattle.kex_core.specs.declared.place.Place.{Place}
 use Rattle.kex_core.specs.declared.place.Place.TheVariants.{Out, Holding}
 use Rattle.kex_core.specs.Nets.{Plan}
-use Rattle.kex_core.specs.Worlds.{Machine, due, found, after, x_after, q_after, bit_after, card_after, accessed}
+use Rattle.kex_core.specs.Worlds.{Machine, due, value_found, after, x_after, q_after, bit_after, card_after, accessed}
 use Rattle.kex_core.specs.Laws.{Placed, Kept}
 use Rattle.kex_core.specs.Costs.{cost, is_spin, kept_at}
 use Rattle.kex_core.specs.Shapes.{Sheet, plan}
@@ -88,10 +88,10 @@ module _ (s : St) (id : ℕ) (v : View) (r : IsReadOff v.net s) (at : get_elem? 
   pub kept' : Kept net world'
   kept' = kept_accessed net r.is_net.valid r.world r.kept p mine d there
 
-  module _ (n : ℕ) (found_is : n ≡ found r.world p d) where
+  module _ (n : ℕ) (found_is : n ≡ value_found r.world p d) where
     -- the new place
     pub place_is' : world'.place p ≡ (stepped (standing v) n).place
-    place_is' = put_here r.world.place p (after net p d (found r.world p d)) ∙ (λ i. after net p (sym is_due i) (sym found_is i))
+    place_is' = put_here r.world.place p (after net p d (value_found r.world p d)) ∙ (λ i. after net p (sym is_due i) (sym found_is i))
 
     pub placed' : Placed net p (stepped (standing v) n).place
     placed' = subst (Placed net p) place_is' (kept'.placed p mine)
@@ -111,7 +111,7 @@ module _ (s : St) (id : ℕ) (v : View) (r : IsReadOff v.net s) (at : get_elem? 
       sits = at;
       inside = mine;
       stood = known.place_is;
-      found_is = found_is ∙ ap (found r.world p) (sym is_due);
+      found_is = found_is ∙ ap (value_found r.world p) (sym is_due);
       placed = placed';
       bounded = let f = firsts' in let b = cost_bound net r.is_net.valid p mine (stepped (standing v) n).place placed' in omega arith;
     }
@@ -134,7 +134,7 @@ module _ (s : St) (id : ℕ) (v : View) (r : IsReadOff v.net s) (at : get_elem? 
           → ((j : ℕ) (e : View) → j ≢ id → get_elem? s.views j ≡ some e → (q : ℕ) → Standing v.net r.world r.made r.maker_seat r.owner s.views j q e → (k : ℕ) → e.place ≡ Holding k → total (took_of k) views' ≡ total (took_of k) s.views)
           → (r' : IsReadOff v.net record { words = ws; homes = hs; views = views' }) × (r'.world ≡ world')
       reads wide xs qs bits card_words cards got uses as_much =
-          let same : (q : ℕ) → q ≢ p → world'.place q ≡ r.world.place q = λ q o. put_else r.world.place p (after net p d (found r.world p d)) q o in
+          let same : (q : ℕ) → q ≢ p → world'.place q ≡ r.world.place q = λ q o. put_else r.world.place p (after net p d (value_found r.world p d)) q o in
           let own = own_owner v.net r.world r.made r.maker_seat r.owner s.views id p v known in (
             record {
               world = world';

@@ -6,7 +6,7 @@ use Rattle.atomic_table.specs.Table.{Step, step}
 use Rattle.kex_words.specs.declared.card.Card.{Card}
 use Rattle.kex_words.specs.declared.view.View.{View}
 use Rattle.kex_words.specs.Passes.{Pass, Held, stepped}
-use Rattle.kex_words.specs.Steps.{Self, holding_seat, pass_of, held_of, next_view, Told, moved, gave, IsPass, IsHolder}
+use Rattle.kex_words.specs.Steps.{Self, holding_seat, pass_of, held_of, next_view, Told, moves_no_card, gave, IsPass, IsHolder}
 use Rattle.kex_words.specs.Moves.{Moved}
 
 -- what a step tells does not depend on its numbers
@@ -23,7 +23,7 @@ both_are : (p p' q q' : Pass) → p ≡ p' → q ≡ q' → Moved p q → Moved 
 both_are p p' q q' p_is q_is m = subst (λ (x : Pass × Pass). Moved x.0 x.1) (λ i. (p_is i, q_is i)) m
 
 -- of an access that moved no card
-pub made : (id id' : TableId) (m m' : Self) (n : ℕ) (p q : Pass) → pass_of id m.0 ≡ p → IsPass (pass_of id m.0) m → moved nothing m n m' → id' ≡ id → q ≡ pass_of id' m'.0 → Moved p q
+pub made : (id id' : TableId) (m m' : Self) (n : ℕ) (p q : Pass) → pass_of id m.0 ≡ p → IsPass (pass_of id m.0) m → moves_no_card nothing m n m' → id' ≡ id → q ≡ pass_of id' m'.0 → Moved p q
 made id id' m m' n p q p_is inv t id_is q_is = both_are (pass_of id m.0) p (stepped (pass_of id m.0) n) q p_is (sym (q_is ∙ (λ i. pass_of (id_is i) (t.1 i).0)))
     (let x = of_view (pass_of id m.0) 0 n m.0 (ap (λ (z : Self). z.0) inv.sits) t.0 in x.0)
 

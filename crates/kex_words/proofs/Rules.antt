@@ -5,7 +5,7 @@ use lib.ListN.{get_elem?}
 use Rattle.kex_core.specs.declared.place.Place.{Place}
 use Rattle.kex_core.specs.declared.place.Place.TheVariants.{Out, Dec, Mark, Look, Spin, Naming, Named, Holding, Clearing, Inc, Unmark}
 use Rattle.kex_core.specs.Nets.{Plan}
-use Rattle.kex_core.specs.Worlds.{due, found, accessed, move}
+use Rattle.kex_core.specs.Worlds.{due, value_found, accessed, move}
 use Rattle.kex_core.specs.Sets.{held_at}
 use Rattle.kex_core.specs.Laws.{Safe}
 use Rattle.kex_core.specs.Shapes.{Sheet, plan}
@@ -66,7 +66,7 @@ module _ (s : TableState) (id : ℕ) (v : View) (r : IsReadOff v.net s) where
       (t.0, t.1 ∙ sym (move_is net r.is_net.valid r.world r.kept p (mine s id v r i.sits i.party d i.due_is) d (there s id v r i.sits i.party d i.due_is)))
 
   -- what the access tells is what the world has there
-  told_is : (d : Place) → get_elem? s.views id ≡ some v → v.role ≡ Party p → due net p v.place ≡ d → told_by p d (get_or s.words (word_at v.net d) 0) ≡ found r.world p d
+  told_is : (d : Place) → get_elem? s.views id ≡ some v → v.role ≡ Party p → due net p v.place ≡ d → told_by p d (get_or s.words (word_at v.net d) 0) ≡ value_found r.world p d
   told_is Out at is e = absurd (never_out net p v.place e)
   told_is (Dec j) at is e = r.x_is j (low (v, []) is s id r at (Dec j) e).0
   told_is (Mark j) at is e = refl

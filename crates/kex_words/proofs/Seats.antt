@@ -14,7 +14,7 @@ use Rattle.kex_words.specs.declared.card.Card.{Card}
 use Rattle.kex_words.specs.Passes.{TableNet, Pass, Held, IsSetUp}
 use Rattle.pass_roles.specs.Roles.{number_of}
 use Rattle.kex_words.specs.Rule.{IsReadOff}
-use Rattle.kex_words.specs.Steps.{Self, pass_of, held_of, name_at, IsPass, IsHolder, moved, took, gave}
+use Rattle.kex_words.specs.Steps.{Self, pass_of, held_of, name_at, IsPass, IsHolder, moves_no_card, took, gave}
 use Rattle.kex_words.proofs.StageWords.{decs, incs, looks, spins, marks, unmarks}
 use Rattle.kex_words.proofs.BitWords.{tests, clears}
 use Rattle.kex_words.proofs.CardWords.{takes_card, gives_card}
@@ -80,67 +80,67 @@ module _ (id : TableId) (told net : Sheet) (seat_id : TableId) (m : Self) (numbe
   placed_for self self_is e is = subst (λ (x : TableNet). Placed (plan x.net) number e) self_is (placed_at e is)
 
   pub lowers : (seat slots w j : ℕ) → d ≡ Dec j → w ≡ 2 * j + 1
-      → (seat_id ≡ id) × (w < id.words) × Allows (IsReadOff told) slots seat m w (λ n. (n + (2 ^ 64 - 1)) % 2 ^ 64) (moved (step slots w 1 0 none) m)
+      → (seat_id ≡ id) × (w < id.words) × Allows (IsReadOff told) slots seat m w (λ n. (n + (2 ^ 64 - 1)) % 2 ^ 64) (moves_no_card (step slots w 1 0 none) m)
   lowers seat slots w j is w_is = (
     s.same,
     (let a = (placed_at (Dec j) is).0 in let b = s.words in omega arith),
-    subst (λ (x : Sheet × ℕ). Allows (IsReadOff x.0) slots seat m x.1 (λ n. (n + (2 ^ 64 - 1)) % 2 ^ 64) (moved (step slots x.1 1 0 none) m)) (λ i. (s.told_is i, sym w_is i)) (decs m s.role slots seat j (s.is_due ∙ is)),
+    subst (λ (x : Sheet × ℕ). Allows (IsReadOff x.0) slots seat m x.1 (λ n. (n + (2 ^ 64 - 1)) % 2 ^ 64) (moves_no_card (step slots x.1 1 0 none) m)) (λ i. (s.told_is i, sym w_is i)) (decs m s.role slots seat j (s.is_due ∙ is)),
   )
 
   pub raises : (seat slots w j : ℕ) → d ≡ Inc j → w ≡ 2 * j + 1
-      → (seat_id ≡ id) × (w < id.words) × Allows (IsReadOff told) slots seat m w (λ n. (n + 1) % 2 ^ 64) (moved (step slots w 1 0 none) m)
+      → (seat_id ≡ id) × (w < id.words) × Allows (IsReadOff told) slots seat m w (λ n. (n + 1) % 2 ^ 64) (moves_no_card (step slots w 1 0 none) m)
   raises seat slots w j is w_is = (
     s.same,
     (let a = (placed_at (Inc j) is).0 in let b = s.words in omega arith),
-    subst (λ (x : Sheet × ℕ). Allows (IsReadOff x.0) slots seat m x.1 (λ n. (n + 1) % 2 ^ 64) (moved (step slots x.1 1 0 none) m)) (λ i. (s.told_is i, sym w_is i)) (incs m s.role slots seat j (s.is_due ∙ is)),
+    subst (λ (x : Sheet × ℕ). Allows (IsReadOff x.0) slots seat m x.1 (λ n. (n + 1) % 2 ^ 64) (moves_no_card (step slots x.1 1 0 none) m)) (λ i. (s.told_is i, sym w_is i)) (incs m s.role slots seat j (s.is_due ∙ is)),
   )
 
   pub reads_counter : (seat slots w j : ℕ) → d ≡ Look j → w ≡ 2 * j + 1
-      → (seat_id ≡ id) × (w < id.words) × Allows (IsReadOff told) slots seat m w (λ n. n) (moved (step slots w 0 0 none) m)
+      → (seat_id ≡ id) × (w < id.words) × Allows (IsReadOff told) slots seat m w (λ n. n) (moves_no_card (step slots w 0 0 none) m)
   reads_counter seat slots w j is w_is = (
     s.same,
     (let a = (placed_at (Look j) is).0 in let b = s.words in omega arith),
-    subst (λ (x : Sheet × ℕ). Allows (IsReadOff x.0) slots seat m x.1 (λ n. n) (moved (step slots x.1 0 0 none) m)) (λ i. (s.told_is i, sym w_is i)) (looks m s.role slots seat j (s.is_due ∙ is)),
+    subst (λ (x : Sheet × ℕ). Allows (IsReadOff x.0) slots seat m x.1 (λ n. n) (moves_no_card (step slots x.1 0 0 none) m)) (λ i. (s.told_is i, sym w_is i)) (looks m s.role slots seat j (s.is_due ∙ is)),
   )
 
   pub reads_name : (seat slots w j : ℕ) → d ≡ Spin j → w ≡ 2 * j + 2
-      → (seat_id ≡ id) × (w < id.words) × Allows (IsReadOff told) slots seat m w (λ n. n) (moved (step slots w 0 0 none) m)
+      → (seat_id ≡ id) × (w < id.words) × Allows (IsReadOff told) slots seat m w (λ n. n) (moves_no_card (step slots w 0 0 none) m)
   reads_name seat slots w j is w_is = (
     s.same,
     (let a = (placed_at (Spin j) is).0 in let b = s.words in omega arith),
-    subst (λ (x : Sheet × ℕ). Allows (IsReadOff x.0) slots seat m x.1 (λ n. n) (moved (step slots x.1 0 0 none) m)) (λ i. (s.told_is i, sym w_is i)) (spins m s.role slots seat j (s.is_due ∙ is)),
+    subst (λ (x : Sheet × ℕ). Allows (IsReadOff x.0) slots seat m x.1 (λ n. n) (moves_no_card (step slots x.1 0 0 none) m)) (λ i. (s.told_is i, sym w_is i)) (spins m s.role slots seat j (s.is_due ∙ is)),
   )
 
   pub writes_name : (seat slots w y j : ℕ) → d ≡ Mark j → w ≡ 2 * j + 2 → y ≡ number + 1
-      → (seat_id ≡ id) × (w < id.words) × Allows (IsReadOff told) slots seat m w (λ _. y) (λ _. moved (step slots w y 0 none) m y)
+      → (seat_id ≡ id) × (w < id.words) × Allows (IsReadOff told) slots seat m w (λ _. y) (λ _. moves_no_card (step slots w y 0 none) m y)
   writes_name seat slots w y j is w_is y_is = (
     s.same,
     (let a = (placed_at (Mark j) is).0 in let b = s.words in let c = s.wide in omega arith),
-    subst (λ (x : Sheet × ℕ × ℕ). Allows (IsReadOff x.0) slots seat m x.1 (λ _. x.2) (λ _. moved (step slots x.1 x.2 0 none) m x.2)) (λ i. (s.told_is i, sym w_is i, sym (y_is ∙ ap (λ (n : ℕ). n + 1) s.number_is) i)) (marks m s.role slots seat j (s.is_due ∙ is)),
+    subst (λ (x : Sheet × ℕ × ℕ). Allows (IsReadOff x.0) slots seat m x.1 (λ _. x.2) (λ _. moves_no_card (step slots x.1 x.2 0 none) m x.2)) (λ i. (s.told_is i, sym w_is i, sym (y_is ∙ ap (λ (n : ℕ). n + 1) s.number_is) i)) (marks m s.role slots seat j (s.is_due ∙ is)),
   )
 
   pub rewrites_name : (seat slots w y j : ℕ) → d ≡ Unmark j → w ≡ 2 * j + 2 → y ≡ number + 1
-      → (seat_id ≡ id) × (w < id.words) × Allows (IsReadOff told) slots seat m w (λ _. y) (λ _. moved (step slots w y 0 none) m y)
+      → (seat_id ≡ id) × (w < id.words) × Allows (IsReadOff told) slots seat m w (λ _. y) (λ _. moves_no_card (step slots w y 0 none) m y)
   rewrites_name seat slots w y j is w_is y_is = (
     s.same,
     (let a = (placed_at (Unmark j) is).0 in let b = s.words in let c = s.wide in omega arith),
-    subst (λ (x : Sheet × ℕ × ℕ). Allows (IsReadOff x.0) slots seat m x.1 (λ _. x.2) (λ _. moved (step slots x.1 x.2 0 none) m x.2)) (λ i. (s.told_is i, sym w_is i, sym (y_is ∙ ap (λ (n : ℕ). n + 1) s.number_is) i)) (unmarks m s.role slots seat j (s.is_due ∙ is)),
+    subst (λ (x : Sheet × ℕ × ℕ). Allows (IsReadOff x.0) slots seat m x.1 (λ _. x.2) (λ _. moves_no_card (step slots x.1 x.2 0 none) m x.2)) (λ i. (s.told_is i, sym w_is i, sym (y_is ∙ ap (λ (n : ℕ). n + 1) s.number_is) i)) (unmarks m s.role slots seat j (s.is_due ∙ is)),
   )
 
   pub sets_bit : (self : TableNet) → record { id = id; net = net } ≡ self → (seat slots w b : ℕ) → d ≡ Naming b → w ≡ 2 * length self.net.caps + 1 + b
-      → (seat_id ≡ id) × (w < id.words) × Allows (IsReadOff told) slots seat m w (λ _. 1) (moved (step slots w 1 0 none) m)
+      → (seat_id ≡ id) × (w < id.words) × Allows (IsReadOff told) slots seat m w (λ _. 1) (moves_no_card (step slots w 1 0 none) m)
   sets_bit self self_is seat slots w b is w_is = (
     s.same,
     (let a = (placed_at (Naming b) is).0 in let c = s.words in let e : length net.caps ≡ length self.net.caps = ap (λ (x : TableNet). length x.net.caps) self_is in omega arith),
-    subst (λ (x : Sheet × ℕ). Allows (IsReadOff x.0) slots seat m x.1 (λ _. 1) (moved (step slots x.1 1 0 none) m)) (λ i. (s.told_is i, sym (w_is ∙ (ap (λ (x : TableNet). 2 * length x.net.caps + 1 + b) (sym self_is) ∙ ap (λ (n : Sheet). 2 * length n.caps + 1 + b) (sym s.net_is))) i)) (tests m s.role slots seat b (s.is_due ∙ is)),
+    subst (λ (x : Sheet × ℕ). Allows (IsReadOff x.0) slots seat m x.1 (λ _. 1) (moves_no_card (step slots x.1 1 0 none) m)) (λ i. (s.told_is i, sym (w_is ∙ (ap (λ (x : TableNet). 2 * length x.net.caps + 1 + b) (sym self_is) ∙ ap (λ (n : Sheet). 2 * length n.caps + 1 + b) (sym s.net_is))) i)) (tests m s.role slots seat b (s.is_due ∙ is)),
   )
 
   pub clears_bit : (self : TableNet) → record { id = id; net = net } ≡ self → (seat slots w b : ℕ) → d ≡ Clearing b → w ≡ 2 * length self.net.caps + 1 + b
-      → (seat_id ≡ id) × (w < id.words) × Allows (IsReadOff told) slots seat m w (λ _. 0) (λ _. moved (step slots w 0 0 none) m 0)
+      → (seat_id ≡ id) × (w < id.words) × Allows (IsReadOff told) slots seat m w (λ _. 0) (λ _. moves_no_card (step slots w 0 0 none) m 0)
   clears_bit self self_is seat slots w b is w_is = (
     s.same,
     (let a = (placed_at (Clearing b) is).0 in let c = s.words in let e : length net.caps ≡ length self.net.caps = ap (λ (x : TableNet). length x.net.caps) self_is in omega arith),
-    subst (λ (x : Sheet × ℕ). Allows (IsReadOff x.0) slots seat m x.1 (λ _. 0) (λ _. moved (step slots x.1 0 0 none) m 0)) (λ i. (s.told_is i, sym (w_is ∙ (ap (λ (x : TableNet). 2 * length x.net.caps + 1 + b) (sym self_is) ∙ ap (λ (n : Sheet). 2 * length n.caps + 1 + b) (sym s.net_is))) i)) (clears m s.role slots seat b (s.is_due ∙ is)),
+    subst (λ (x : Sheet × ℕ). Allows (IsReadOff x.0) slots seat m x.1 (λ _. 0) (λ _. moves_no_card (step slots x.1 0 0 none) m 0)) (λ i. (s.told_is i, sym (w_is ∙ (ap (λ (x : TableNet). 2 * length x.net.caps + 1 + b) (sym self_is) ∙ ap (λ (n : Sheet). 2 * length n.caps + 1 + b) (sym s.net_is))) i)) (clears m s.role slots seat b (s.is_due ∙ is)),
   )
 
   pub takes_out : (self : TableNet) → record { id = id; net = net } ≡ self → (seat slots w k : ℕ) → m.0.place ≡ Named k → d ≡ Named k → w ≡ 2 * length self.net.caps + self.net.width + k

@@ -16,7 +16,7 @@ use Rattle.kex_words.specs.declared.view.View.{View}
 use Rattle.kex_words.specs.Passes.{times}
 use Rattle.pass_roles.specs.Roles.{total, made_of, number_of, weigh}
 use Rattle.kex_words.specs.Rule.{took_of, weight, Making, Fits, IsHome, IsAway, IsReadOff}
-use Rattle.kex_words.specs.Steps.{dealt, newcomer}
+use Rattle.kex_words.specs.Steps.{dealt_view, newcomer}
 use Rattle.pass_roles.proofs.Members.{total_set, total_snoc, each_set, each_snoc, set_at}
 use Rattle.kex_words.proofs.Times.{times_head, times_other, own_number}
 use Rattle.kex_words.proofs.Keeps.{dealt_set}
@@ -46,10 +46,10 @@ others_dealt sheet world made maker_seat last owner views views' j d (Party q) o
 }
 others_dealt sheet world made maker_seat last owner views views' j d Spent other as_much f = record { got = f.got }
 
-pub deals : (id : ℕ) (v : View) (m : ℕ) → v.role ≡ Maker m → m < v.net.parties → Splits (IsReadOff v.net) id v (dealt v) (newcomer v)
+pub deals : (id : ℕ) (v : View) (m : ℕ) → v.role ≡ Maker m → m < v.net.parties → Splits (IsReadOff v.net) id v (dealt_view v) (newcomer v)
 deals id v m is room s r at =
     let known : Making v.net r.world r.made r.maker_seat r.owner s.views id m v = subst (λ (x : Role). Fits v.net r.world r.made r.maker_seat r.owner s.views id v x) is (r.each id v at) in
-    let last : ℕ = length s.views in let w : View = dealt v in let x : View = newcomer v in
+    let last : ℕ = length s.views in let w : View = dealt_view v in let x : View = newcomer v in
     let m_is : made_of v.role ≡ r.made = ap made_of is ∙ known.made_is in
     let w_role : w.role ≡ Maker (r.made + 1) = ap (λ (k : ℕ). Maker (k + 1)) m_is in
     let x_role : x.role ≡ Party r.made = ap Party m_is in

@@ -7,7 +7,7 @@ use Rattle.atomic_table.specs.Table.{State, step, keeps, Allows}
 use Rattle.kex_core.specs.declared.place.Place.{Place}
 use Rattle.kex_core.specs.declared.place.Place.TheVariants.{Dec, Mark, Look, Spin, Named, Holding, Inc, Unmark}
 use Rattle.kex_core.specs.Nets.{Plan}
-use Rattle.kex_core.specs.Worlds.{put, due, found, after, x_after, q_after, bit_after, card_after, accessed}
+use Rattle.kex_core.specs.Worlds.{put, due, value_found, after, x_after, q_after, bit_after, card_after, accessed}
 use Rattle.kex_core.specs.Laws.{Placed}
 use Rattle.kex_core.specs.Shapes.{plan}
 use Rattle.kex_core.proofs.Exports.{due_placed, dec_above, inc_below, x_top}
@@ -17,7 +17,7 @@ use Rattle.kex_words.specs.declared.view.View.{View}
 use Rattle.kex_words.specs.Passes.{got_after}
 use Rattle.pass_roles.specs.Roles.{number_of}
 use Rattle.kex_words.specs.Rule.{IsReadOff}
-use Rattle.kex_words.specs.Steps.{Self, next_view, moved}
+use Rattle.kex_words.specs.Steps.{Self, next_view, moves_no_card}
 use Rattle.kex_words.proofs.Places.{word_put, word_else, held_from}
 use Rattle.kex_words.proofs.Keeps.{mine, there, told, reads_plain}
 
@@ -59,7 +59,7 @@ module _ (me : Self) (is : me.0.role ≡ Party (number_of me.0.role)) where
       (λ k l. get_or-set_other s.words (2 * j + 1) (2 * length v.net.caps + 1 + k) y 0 (λ e. omega arith) ∙ r.bit_is k l)
       (λ k l. get_or-set_other s.words (2 * j + 1) (2 * length v.net.caps + v.net.width + k) y 0 (λ e. omega arith) ∙ r.card_is k l)
 
-  pub decs : (slots id j : ℕ) → due net p v.place ≡ Dec j → Allows (IsReadOff v.net) slots id me (2 * j + 1) (λ n. (n + (2 ^ 64 - 1)) % 2 ^ 64) (moved (step slots (2 * j + 1) 1 0 none) me)
+  pub decs : (slots id j : ℕ) → due net p v.place ≡ Dec j → Allows (IsReadOff v.net) slots id me (2 * j + 1) (λ n. (n + (2 ^ 64 - 1)) % 2 ^ 64) (moves_no_card (step slots (2 * j + 1) 1 0 none) me)
   decs slots id j is_due s r _ at _ = let n : ℕ = get_or s.words (2 * j + 1) 0 in
       (next_view v n, keeps, tt, (dec_read s id j r at is_due).0, (told s id v r at is (Dec j) is_due n (r.x_is j (low s id r at (Dec j) is_due).0), refl))
 
@@ -76,12 +76,12 @@ module _ (me : Self) (is : me.0.role ≡ Party (number_of me.0.role)) where
       (λ k l. get_or-set_other s.words (2 * j + 1) (2 * length v.net.caps + 1 + k) y 0 (λ e. omega arith) ∙ r.bit_is k l)
       (λ k l. get_or-set_other s.words (2 * j + 1) (2 * length v.net.caps + v.net.width + k) y 0 (λ e. omega arith) ∙ r.card_is k l)
 
-  pub incs : (slots id j : ℕ) → due net p v.place ≡ Inc j → Allows (IsReadOff v.net) slots id me (2 * j + 1) (λ n. (n + 1) % 2 ^ 64) (moved (step slots (2 * j + 1) 1 0 none) me)
+  pub incs : (slots id j : ℕ) → due net p v.place ≡ Inc j → Allows (IsReadOff v.net) slots id me (2 * j + 1) (λ n. (n + 1) % 2 ^ 64) (moves_no_card (step slots (2 * j + 1) 1 0 none) me)
   incs slots id j is_due s r _ at _ = let n : ℕ = get_or s.words (2 * j + 1) 0 in
       (next_view v n, keeps, tt, (inc_read s id j r at is_due).0, (told s id v r at is (Inc j) is_due n (r.x_is j (low s id r at (Inc j) is_due).0), refl))
 
   -- a word is read, and all stay as they are
-  pub load_read : (d : Place) (is_due : due net p v.place ≡ d) (s : St) (id i : ℕ) (r : IsReadOff v.net s) (at : get_elem? s.views id ≡ some v) → get_or s.words i 0 ≡ found r.world p d
+  pub load_read : (d : Place) (is_due : due net p v.place ≡ d) (s : St) (id i : ℕ) (r : IsReadOff v.net s) (at : get_elem? s.views id ≡ some v) → get_or s.words i 0 ≡ value_found r.world p d
       → got_after d v.got ≡ v.got → card_after d r.world.card ≡ r.world.card → x_after d r.world.x ≡ r.world.x → q_after p d r.world.q ≡ r.world.q → bit_after d r.world.bit ≡ r.world.bit → ((k : ℕ) → d ≢ Named k)
       → (r' : IsReadOff v.net record { words = set s.words i (get_or s.words i 0); homes = s.homes; views = set s.views id (next_view v (get_or s.words i 0)) }) × (r'.world ≡ accessed net r.world p d)
   load_read d is_due s id i r at n_is same_got same_card same_x same_q same_bit other = let n : ℕ = get_or s.words i 0 in
@@ -99,14 +99,14 @@ module _ (me : Self) (is : me.0.role ≡ Party (number_of me.0.role)) where
       → (r' : IsReadOff v.net record { words = set s.words (2 * j + 2) (get_or s.words (2 * j + 2) 0); homes = s.homes; views = set s.views id (next_view v (get_or s.words (2 * j + 2) 0)) }) × (r'.world ≡ accessed net r.world p (Spin j))
   spin_read s id j r at is_due = load_read (Spin j) is_due s id (2 * j + 2) r at (r.q_is j (low s id r at (Spin j) is_due).0) refl refl refl refl refl (λ k e. cc)
 
-  pub looks : (slots id j : ℕ) → due net p v.place ≡ Look j → Allows (IsReadOff v.net) slots id me (2 * j + 1) (λ n. n) (moved (step slots (2 * j + 1) 0 0 none) me)
+  pub looks : (slots id j : ℕ) → due net p v.place ≡ Look j → Allows (IsReadOff v.net) slots id me (2 * j + 1) (λ n. n) (moves_no_card (step slots (2 * j + 1) 0 0 none) me)
   looks slots id j is_due s r _ at _ = let n : ℕ = get_or s.words (2 * j + 1) 0 in (next_view v n, keeps, tt, (look_read s id j r at is_due).0, (told s id v r at is (Look j) is_due n (r.x_is j (low s id r at (Look j) is_due).0), refl))
 
-  pub spins : (slots id j : ℕ) → due net p v.place ≡ Spin j → Allows (IsReadOff v.net) slots id me (2 * j + 2) (λ n. n) (moved (step slots (2 * j + 2) 0 0 none) me)
+  pub spins : (slots id j : ℕ) → due net p v.place ≡ Spin j → Allows (IsReadOff v.net) slots id me (2 * j + 2) (λ n. n) (moves_no_card (step slots (2 * j + 2) 0 0 none) me)
   spins slots id j is_due s r _ at _ = let n : ℕ = get_or s.words (2 * j + 2) 0 in (next_view v n, keeps, tt, (spin_read s id j r at is_due).0, (told s id v r at is (Spin j) is_due n (r.q_is j (low s id r at (Spin j) is_due).0), refl))
 
   -- the party's number is written into a spin word
-  name_read : (d : Place) (is_due : due net p v.place ≡ d) (s : St) (id j : ℕ) (r : IsReadOff v.net s) (at : get_elem? s.views id ≡ some v) → j < length v.net.caps → p + 1 ≡ found r.world p d
+  name_read : (d : Place) (is_due : due net p v.place ≡ d) (s : St) (id j : ℕ) (r : IsReadOff v.net s) (at : get_elem? s.views id ≡ some v) → j < length v.net.caps → p + 1 ≡ value_found r.world p d
       → got_after d v.got ≡ v.got → card_after d r.world.card ≡ r.world.card → x_after d r.world.x ≡ r.world.x → q_after p d r.world.q ≡ put r.world.q j (p + 1) → bit_after d r.world.bit ≡ r.world.bit → ((k : ℕ) → d ≢ Named k)
       → (r' : IsReadOff v.net record { words = set s.words (2 * j + 2) (p + 1); homes = s.homes; views = set s.views id (next_view v (p + 1)) }) × (r'.world ≡ accessed net r.world p d)
   name_read d is_due s id j r at inside n_is same_got same_card same_x new_q same_bit other = let i : ℕ = 2 * j + 2 in let n : ℕ = p + 1 in let wide = r.wide in
@@ -124,8 +124,8 @@ module _ (me : Self) (is : me.0.role ≡ Party (number_of me.0.role)) where
       → (r' : IsReadOff v.net record { words = set s.words (2 * j + 2) (p + 1); homes = s.homes; views = set s.views id (next_view v (p + 1)) }) × (r'.world ≡ accessed net r.world p (Unmark j))
   unmark_read s id j r at is_due = name_read (Unmark j) is_due s id j r at (low s id r at (Unmark j) is_due).0 refl refl refl refl refl refl (λ k e. cc)
 
-  pub marks : (slots id j : ℕ) → due net p v.place ≡ Mark j → Allows (IsReadOff v.net) slots id me (2 * j + 2) (λ _. p + 1) (λ _. moved (step slots (2 * j + 2) (p + 1) 0 none) me (p + 1))
+  pub marks : (slots id j : ℕ) → due net p v.place ≡ Mark j → Allows (IsReadOff v.net) slots id me (2 * j + 2) (λ _. p + 1) (λ _. moves_no_card (step slots (2 * j + 2) (p + 1) 0 none) me (p + 1))
   marks slots id j is_due s r _ at _ = (next_view v (p + 1), keeps, tt, (mark_read s id j r at is_due).0, (told s id v r at is (Mark j) is_due (p + 1) refl, refl))
 
-  pub unmarks : (slots id j : ℕ) → due net p v.place ≡ Unmark j → Allows (IsReadOff v.net) slots id me (2 * j + 2) (λ _. p + 1) (λ _. moved (step slots (2 * j + 2) (p + 1) 0 none) me (p + 1))
+  pub unmarks : (slots id j : ℕ) → due net p v.place ≡ Unmark j → Allows (IsReadOff v.net) slots id me (2 * j + 2) (λ _. p + 1) (λ _. moves_no_card (step slots (2 * j + 2) (p + 1) 0 none) me (p + 1))
   unmarks slots id j is_due s r _ at _ = (next_view v (p + 1), keeps, tt, (unmark_read s id j r at is_due).0, (told s id v r at is (Unmark j) is_due (p + 1) refl, refl))

@@ -27,18 +27,18 @@ word_at net (Inc j) = 2 * j + 1
 word_at net (Unmark j) = 2 * j + 2
 
 -- what party p's access leaves in that word, which had n
-abbrev pub written : ℕ → Place → ℕ → ℕ
-written p Out n = n
-written p (Dec j) n = (n + (2 ^ 64 - 1)) % 2 ^ 64
-written p (Mark j) n = p + 1
-written p (Look j) n = n
-written p (Spin j) n = n
-written p (Naming i) n = 1
-written p (Named s) n = 1
-written p (Holding s) n = 0
-written p (Clearing s) n = 0
-written p (Inc j) n = (n + 1) % 2 ^ 64
-written p (Unmark j) n = p + 1
+abbrev pub word_after : ℕ → Place → ℕ → ℕ
+word_after p Out n = n
+word_after p (Dec j) n = (n + (2 ^ 64 - 1)) % 2 ^ 64
+word_after p (Mark j) n = p + 1
+word_after p (Look j) n = n
+word_after p (Spin j) n = n
+word_after p (Naming i) n = 1
+word_after p (Named s) n = 1
+word_after p (Holding s) n = 0
+word_after p (Clearing s) n = 0
+word_after p (Inc j) n = (n + 1) % 2 ^ 64
+word_after p (Unmark j) n = p + 1
 
 -- what the access tells: of a store, what it stores
 abbrev pub told_by : ℕ → Place → ℕ → ℕ
@@ -85,7 +85,7 @@ uses_after (Unmark j) views = 0
 -- the state after the access of the place d by the seat `id`, whose view is v
 abbrev pub state_after : TableState → ℕ → View → Place → TableState
 state_after s id v d = record {
-  words = slice_set s.words (word_at v.net d) (written (number_of v.role) d (slice_index s.words (word_at v.net d)));
+  words = slice_set s.words (word_at v.net d) (word_after (number_of v.role) d (slice_index s.words (word_at v.net d)));
   homes = homes_after d v.uses s.homes;
   views = slice_set s.views id (record (next_view v (told_by (number_of v.role) d (slice_index s.words (word_at v.net d)))) { uses = uses_after d s.views });
 }

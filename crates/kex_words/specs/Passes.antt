@@ -108,13 +108,13 @@ times x [] = 0
 times x (y ∷ ys) = (if y == x then 1 else 0) + times x ys
 
 -- how often the passes took the number s
-abbrev pub taken : ℕ → List Pass → ℕ
-taken s [] = 0
-taken s (p ∷ ps) = times s p.got + taken s ps
+abbrev pub times_taken : ℕ → List Pass → ℕ
+times_taken s [] = 0
+times_taken s (p ∷ ps) = times s p.got + times_taken s ps
 
 -- card s of a table that these passes have used
 abbrev pub used_card : List Pass → ℕ → Card
-used_card passes s = record { number = s; uses = taken s passes % 2 ^ 64 }
+used_card passes s = record { number = s; uses = times_taken s passes % 2 ^ 64 }
 
 -- passes of a table that were taken in for its close: their numbers, the last first, and the numbers that they took
 pub record TakenIn : Type 0 where

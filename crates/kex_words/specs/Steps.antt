@@ -6,7 +6,7 @@ use Rattle.atomic_table.specs.Seated.{TableId}
 use Rattle.atomic_table.specs.Table.{State, Me, Step, rest}
 use Rattle.kex_core.specs.declared.place.Place.{Place}
 use Rattle.kex_core.specs.declared.place.Place.TheVariants.{Out, Dec, Mark, Look, Spin, Naming, Named, Holding, Clearing, Inc, Unmark}
-use Rattle.kex_core.specs.Worlds.{found}
+use Rattle.kex_core.specs.Worlds.{value_found}
 use Rattle.kex_core.specs.Laws.{Placed}
 use Rattle.kex_core.specs.Costs.{bound}
 use Rattle.kex_core.specs.Shapes.{Sheet, plan}
@@ -46,12 +46,12 @@ maker net m = record { net = net; role = Maker m; place = Out; firsts = 0; spins
 abbrev pub no_net : Sheet
 no_net = record { parties = 0; width = 0; caps = []; nexts = []; starts = [] }
 
-abbrev pub spent : View
-spent = record { net = no_net; role = Spent; place = Out; firsts = 0; spins = 0; got = []; uses = 0; joined = [] }
+abbrev pub spent_view : View
+spent_view = record { net = no_net; role = Spent; place = Out; firsts = 0; spins = 0; got = []; uses = 0; joined = [] }
 
 -- a split leaves the maker with this
-abbrev pub dealt : View → View
-dealt v = record v { role = Maker (made_of v.role + 1) }
+abbrev pub dealt_view : View → View
+dealt_view v = record v { role = Maker (made_of v.role + 1) }
 
 -- and the new seat with this
 abbrev pub newcomer : View → View
@@ -62,12 +62,12 @@ abbrev pub both : View → View → View
 both v w = record v { got = v.got ++ w.got; joined = number_of w.role ∷ (w.joined ++ v.joined) }
 
 -- the view of a pass
-abbrev pub seated : Pass → View
-seated p = record { net = p.table.net; role = Party p.number; place = p.place; firsts = p.firsts; spins = p.spins; got = p.got; uses = 0; joined = [] }
+abbrev pub seated_view : Pass → View
+seated_view p = record { net = p.table.net; role = Party p.number; place = p.place; firsts = p.firsts; spins = p.spins; got = p.got; uses = 0; joined = [] }
 
 -- the same, where its card was used so often
 abbrev pub holding_seat : Pass → ℕ → View
-holding_seat p u = record (seated p) { uses = u }
+holding_seat p u = record (seated_view p) { uses = u }
 
 -- the pass that a view at this table is
 abbrev pub pass_of : TableId → View → Pass
@@ -101,13 +101,13 @@ pub record Told (v : View) (n : ℕ) : Type 0 where
   pub sits : get_elem? state.views seat ≡ some v
   pub inside : number_of v.role < v.net.parties
   pub stood : ruled.world.place (number_of v.role) ≡ v.place
-  pub found_is : n ≡ found ruled.world (number_of v.role) (due_at (standing v))
+  pub found_is : n ≡ value_found ruled.world (number_of v.role) (due_at (standing v))
   pub placed : Placed (plan v.net) (number_of v.role) (stepped (standing v) n).place
   pub bounded : (stepped (standing v) n).firsts ≤ bound (plan v.net) (number_of v.role) (stepped (standing v) n).place
 
 -- an access that moves no card
-abbrev pub moved : Step (Option Card) → Self → ℕ → Self → Type 0
-moved st m n m' = Told m.0 n × (m' ≡ (next_view m.0 n, m.1))
+abbrev pub moves_no_card : Step (Option Card) → Self → ℕ → Self → Type 0
+moves_no_card st m n m' = Told m.0 n × (m' ≡ (next_view m.0 n, m.1))
 
 -- the card was taken, and its uses are to be one more
 abbrev pub took : Step (Option Card) → Self → ℕ → Self → Type 0
@@ -121,13 +121,13 @@ gave st m n m' = Told m.0 n × (m' ≡ (next_view m.0 n, rest m.1))
 
 -- the seat has the pass's view and no card, and the pass lies on its party's path
 pub record IsPass (p : Pass) (m : Self) : Type 0 where
-  pub sits : m ≡ (seated p, [])
+  pub sits : m ≡ (seated_view p, [])
   pub inside : p.number < p.table.net.parties
   pub placed : Placed (plan p.table.net) p.number p.place
 
 -- the seat of a pass that is Out
 pub record IsAtRest (p : Pass) (m : Self) : Type 0 where
-  pub sits : m ≡ (seated p, [])
+  pub sits : m ≡ (seated_view p, [])
   pub rests : p.place ≡ Out
 
 -- the seat of a pass that has its card in hand

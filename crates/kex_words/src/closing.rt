@@ -3,7 +3,7 @@ ghost use Rattle.std.specs.Prelude.{◌≡◌, ℕ, ◌%◌, ◌^◌, ◌<◌, �
 ghost use mathlib.Core.Option.{some};
 ghost use lib.ListN.{get_elem?};
 ghost use Rattle.std.specs.Slots.{slots_items, slots_filled, slots_len, IsFull};
-ghost use Rattle.kex_words.specs.Passes.{used_card, counted_card, times, taken};
+ghost use Rattle.kex_words.specs.Passes.{used_card, counted_card, times, times_taken};
 ghost use Rattle.kex_words.specs.Steps.{IsAtRest, numbers_of};
 
 use crate::card::Card;
@@ -96,7 +96,7 @@ impl KexTable {
         ensures uses { sum_by (λ c. c.uses) result.items % 2 ^ 64 ≡ sum_by (λ p. length p.got) passes.items % 2 ^ 64 }
         ensures numbers { (q : ℕ) → q < self.net.parties → times q (numbers_of passes.items) ≡ 1 }
         ensures below { All (λ p. p.number < self.net.parties) passes.items }
-        ensures got { (s : ℕ) → self.net.width ≤ s → taken s passes.items ≡ 0 }
+        ensures got { (s : ℕ) → self.net.width ≤ s → times_taken s passes.items ≡ 0 }
     {
         let gathering = self.gather_all(passes);
         self.close_gathered(gathering)
@@ -108,7 +108,7 @@ impl KexTable {
         requires own { All (λ p. p.table ≡ self.now) passes.items }
         ensures table { result.table ≡ self.now }
         ensures numbers { result.numbers ≡ numbers_of passes.items }
-        ensures got { (s : ℕ) → times s result.got ≡ taken s passes.items }
+        ensures got { (s : ℕ) → times s result.got ≡ times_taken s passes.items }
         ensures all { length result.got ≡ sum_by (λ p. length p.got) passes.items }
     {
         let Some(first) = passes.pop() else {

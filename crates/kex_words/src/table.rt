@@ -47,9 +47,9 @@ pub(crate) type WordSeat = Seat<Option<Card>, View>;
 pub(crate) struct Moves;
 
 impl Play<Option<Card>, View> for Moves {
-    ghost use Rattle.kex_words.specs.Steps.{moved};
+    ghost use Rattle.kex_words.specs.Steps.{moves_no_card};
 
-    ghost then = { moved };
+    ghost then = { moves_no_card };
 }
 
 /// Sets a card word from 0 to 1: the card goes out with the seat.
@@ -74,9 +74,9 @@ impl Play<Option<Card>, View> for GivesCard {
 pub(crate) struct Deal;
 
 impl Split<View> for Deal {
-    ghost use Rattle.kex_words.specs.Steps.{dealt, newcomer};
+    ghost use Rattle.kex_words.specs.Steps.{dealt_view, newcomer};
 
-    ghost left = { dealt };
+    ghost left = { dealt_view };
 
     ghost right = { newcomer };
 }
@@ -85,9 +85,9 @@ impl Split<View> for Deal {
 pub(crate) struct Gather;
 
 impl Join<View> for Gather {
-    ghost use Rattle.kex_words.specs.Steps.{both, spent};
+    ghost use Rattle.kex_words.specs.Steps.{both, spent_view};
 
     ghost both = { both };
 
-    ghost spent = { spent };
+    ghost spent = { spent_view };
 }

@@ -1,7 +1,7 @@
 use Rattle.std.proofs.Common.{◌≡◌, ℕ, ◌+◌, Bool, true, false, not, List, [], ◌∷◌, ◌++◌, length, filter, map, None, Some, Ok, Err, refl, sym, ap, ◌∙◌, append_assoc, arith}
 use Rattle.std.proofs.lemmas.List.{append-nil}
-use Rattle.lic_text.specs.Physical.{is_empty, is_comment, is_continued, front_of}
-use Rattle.lic_text.specs.Lines.{Logical, logical_lines, fault_of, judged, tells, up_to_fault, words_of, lines_from}
+use Rattle.lic_text.specs.Physical.{is_empty, is_comment, is_continued, without_last}
+use Rattle.lic_text.specs.Lines.{Logical, logical_lines, fault_of, line_or_fault, tells, up_to_fault, words_of, lines_from}
 use Rattle.lic_text.specs.Front.{joined_text, has_no_end, line_count, lines_behind}
 use Rattle.lic_text.specs.declared.fault.TextFault.{TextFault}
 
@@ -24,9 +24,9 @@ open_step : (text : List ℕ) (texts : List (List ℕ)) (first : ℕ) (before : 
     ((more : List ℕ) (next : ℕ) → logical_lines texts (Some (line_of first more true)) next ≡ behind first more next texts) →
     logical_lines (text ∷ texts) (Some (line_of first before true)) number ≡ behind first before number (text ∷ texts)
 open_step text texts first before number true h hyp =
-    rw h (hyp (before ++ (front_of text ++ 32 ∷ [])) (number + 1)
-    ∙ same_lines first ((before ++ (front_of text ++ 32 ∷ [])) ++ joined_text texts) (before ++ (front_of text ++ 32 ∷ joined_text texts)) (has_no_end texts) (number + 1 + line_count texts) (number + (1 + line_count texts)) (lines_behind texts)
-    (append_assoc before (front_of text ++ 32 ∷ []) (joined_text texts) ∙ ap (λ (t : List ℕ). before ++ t) (append_assoc (front_of text) (32 ∷ []) (joined_text texts)))
+    rw h (hyp (before ++ (without_last text ++ 32 ∷ [])) (number + 1)
+    ∙ same_lines first ((before ++ (without_last text ++ 32 ∷ [])) ++ joined_text texts) (before ++ (without_last text ++ 32 ∷ joined_text texts)) (has_no_end texts) (number + 1 + line_count texts) (number + (1 + line_count texts)) (lines_behind texts)
+    (append_assoc before (without_last text ++ 32 ∷ []) (joined_text texts) ∙ ap (λ (t : List ℕ). before ++ t) (append_assoc (without_last text) (32 ∷ []) (joined_text texts)))
     (omega arith))
 open_step text texts first before number false h hyp = rw h refl
 
@@ -51,15 +51,15 @@ unfolding lines_from
 past_comment text texts number h = rw h refl
 
 front_fault : (line : Logical) (others : List Logical) (fault : TextFault) → fault_of line.first (length line.text) line.is_open ≡ Some fault →
-    up_to_fault (filter tells (map judged (line ∷ others))) ≡ Err fault ∷ []
+    up_to_fault (filter tells (map line_or_fault (line ∷ others))) ≡ Err fault ∷ []
 front_fault line others fault h = rw h refl
 
 front_told : (line : Logical) (others : List Logical) → fault_of line.first (length line.text) line.is_open ≡ None → not (is_empty (words_of line.text)) ≡ true →
-    up_to_fault (filter tells (map judged (line ∷ others))) ≡ Ok (line.first, words_of line.text) ∷ up_to_fault (filter tells (map judged others))
+    up_to_fault (filter tells (map line_or_fault (line ∷ others))) ≡ Ok (line.first, words_of line.text) ∷ up_to_fault (filter tells (map line_or_fault others))
 front_told line others h g = rw (h, g) refl
 
 front_silent : (line : Logical) (others : List Logical) → fault_of line.first (length line.text) line.is_open ≡ None → not (is_empty (words_of line.text)) ≡ false →
-    up_to_fault (filter tells (map judged (line ∷ others))) ≡ up_to_fault (filter tells (map judged others))
+    up_to_fault (filter tells (map line_or_fault (line ∷ others))) ≡ up_to_fault (filter tells (map line_or_fault others))
 front_silent line others h g = rw (h, g) refl
 
 -- a line with a fault is the last
@@ -67,7 +67,7 @@ pub at_fault : (text : List ℕ) (texts : List (List ℕ)) (number : ℕ) (fault
     fault_of number (length (joined_text (text ∷ texts))) (has_no_end (text ∷ texts)) ≡ Some fault → lines_from number (text ∷ texts) ≡ Err fault ∷ []
 unfolding lines_from
 at_fault text texts number fault h f =
-    ap (λ (lines : List Logical). up_to_fault (filter tells (map judged lines))) (begins_line text texts number h)
+    ap (λ (lines : List Logical). up_to_fault (filter tells (map line_or_fault lines))) (begins_line text texts number h)
     ∙ front_fault (front_line number (text ∷ texts)) (logical_lines (lines_behind (text ∷ texts)) None (number + line_count (text ∷ texts))) fault f
 
 -- a line with words comes first
@@ -76,7 +76,7 @@ pub at_words : (text : List ℕ) (texts : List (List ℕ)) (number : ℕ) → is
     lines_from number (text ∷ texts) ≡ Ok (number, words_of (joined_text (text ∷ texts))) ∷ lines_from (number + line_count (text ∷ texts)) (lines_behind (text ∷ texts))
 unfolding lines_from
 at_words text texts number h f g =
-    ap (λ (lines : List Logical). up_to_fault (filter tells (map judged lines))) (begins_line text texts number h)
+    ap (λ (lines : List Logical). up_to_fault (filter tells (map line_or_fault lines))) (begins_line text texts number h)
     ∙ front_told (front_line number (text ∷ texts)) (logical_lines (lines_behind (text ∷ texts)) None (number + line_count (text ∷ texts))) f g
 
 -- a line without words is passed over
@@ -85,7 +85,7 @@ pub past_blanks : (text : List ℕ) (texts : List (List ℕ)) (number : ℕ) →
     lines_from number (text ∷ texts) ≡ lines_from (number + line_count (text ∷ texts)) (lines_behind (text ∷ texts))
 unfolding lines_from
 past_blanks text texts number h f g =
-    ap (λ (lines : List Logical). up_to_fault (filter tells (map judged lines))) (begins_line text texts number h)
+    ap (λ (lines : List Logical). up_to_fault (filter tells (map line_or_fault lines))) (begins_line text texts number h)
     ∙ front_silent (front_line number (text ∷ texts)) (logical_lines (lines_behind (text ∷ texts)) None (number + line_count (text ∷ texts))) f g
 
 -- no lines, nothing told

@@ -2,7 +2,7 @@ use Rattle.std.proofs.Common.{◌≡◌, ℕ, Bool, true, false, not, List, [], 
 use Rattle.std.proofs.lemmas.List.Elements.{filter-append}
 use Rattle.std.proofs.lemmas.List.{append-nil}
 use Rattle.std.specs.List.{slice_split, onto_first}
-use Rattle.lic_text.specs.Physical.{is_blank, is_empty, is_continued, front_of}
+use Rattle.lic_text.specs.Physical.{is_blank, is_empty, is_continued, without_last}
 use Rattle.lic_text.specs.Lines.{words_of}
 use Rattle.lic_text.specs.Front.{joined_text}
 use Rattle.lic_text.proofs.Cuts.{cut}
@@ -27,15 +27,15 @@ words-append a b =
     ∙ filter-append (λ word. not (is_empty word)) (slice_split is_blank a) (slice_split is_blank b)
 
 -- the words of a line that is continued
-pub words_going_on : (text : List ℕ) (texts : List (List ℕ)) → is_continued text ≡ true → words_of (joined_text (text ∷ texts)) ≡ words_of (front_of text) ++ words_of (joined_text texts)
-words_going_on text texts h = rw h (words-append (front_of text) (joined_text texts))
+pub words_going_on : (text : List ℕ) (texts : List (List ℕ)) → is_continued text ≡ true → words_of (joined_text (text ∷ texts)) ≡ words_of (without_last text) ++ words_of (joined_text texts)
+words_going_on text texts h = rw h (words-append (without_last text) (joined_text texts))
 
 -- the words of a line that isn't
 pub words_at_end : (text : List ℕ) (texts : List (List ℕ)) → is_continued text ≡ false → words_of (joined_text (text ∷ texts)) ≡ words_of text
 words_at_end text texts h = rw h refl
 
 -- what going on to the next physical line leaves
-pub goes_on : (all texts : List (List ℕ)) (text front : List ℕ) → all ≡ text ∷ texts → is_continued text ≡ true → front ≡ front_of text →
+pub goes_on : (all texts : List (List ℕ)) (text front : List ℕ) → all ≡ text ∷ texts → is_continued text ≡ true → front ≡ without_last text →
     words_of front ++ words_of (joined_text texts) ≡ words_of (joined_text all)
 goes_on all texts text front e h is = rw (is, e) (sym (words_going_on text texts h))
 

@@ -1,6 +1,6 @@
 use Rattle.std.proofs.Common.{◌≡◌, ◌<◌, ◌≤◌, ◌+◌, ℕ, Bool, true, false, if◌then◌else◌, List, [], ◌∷◌, ◌++◌, length, filter, map, Option, None, Some, Result, Ok, Err, refl, sym, subst, nat_lt, arith}
-use Rattle.lic_text.specs.Physical.{is_comment, is_continued, front_of, physical_lines}
-use Rattle.lic_text.specs.Lines.{Logical, new_line, joined, with_line, ended, still_open, logical_lines, words_of, unless_fault, judged, tells, up_to_fault, lines_from, lines_of, Worded, number_at, RisesAbove}
+use Rattle.lic_text.specs.Physical.{is_comment, is_continued, without_last, physical_lines}
+use Rattle.lic_text.specs.Lines.{Logical, new_line, with_text, with_line, ended_lines, still_open, logical_lines, words_of, unless_fault, line_or_fault, tells, up_to_fault, lines_from, lines_of, Worded, number_at, RisesAbove}
 use Rattle.lic_text.specs.declared.fault.TextFault.{TextFault}
 use Rattle.lic_text.specs.declared.fault.TextFault.TheVariants.{LineTooLong, OpenContinuation}
 use Rattle.lic_text.proofs.Fronts.{line_of}
@@ -20,22 +20,22 @@ begins_with : (open_line : Option Logical) (low number : ℕ) (text : List ℕ) 
 begins_with None low number text h =
     let P : Option Logical → Type 0 = λ line. Begins low line (number + 1) in
     let Q : Logical → Type 0 = λ line. (low < line.first) × (line.first < number + 1) in
-    of_either P (is_comment text) None (Some (joined (new_line number) text)) (omega arith)
-    (of_either Q (is_continued text) (record { first = number; text = [] ++ (front_of text ++ 32 ∷ []); is_open = true }) (record { first = number; text = [] ++ text; is_open = false }) (h, omega arith) (h, omega arith))
+    of_either P (is_comment text) None (Some (with_text (new_line number) text)) (omega arith)
+    (of_either Q (is_continued text) (record { first = number; text = [] ++ (without_last text ++ 32 ∷ []); is_open = true }) (record { first = number; text = [] ++ text; is_open = false }) (h, omega arith) (h, omega arith))
 begins_with (Some line) low number text h =
     let Q : Logical → Type 0 = λ line. (low < line.first) × (line.first < number + 1) in
     let later : line.first < number + 1 = omega (arith, h.1) in
-    of_either Q (is_continued text) (record { first = line.first; text = line.text ++ (front_of text ++ 32 ∷ []); is_open = true }) (record { first = line.first; text = line.text ++ text; is_open = false }) (h.0, later) (h.0, later)
+    of_either Q (is_continued text) (record { first = line.first; text = line.text ++ (without_last text ++ 32 ∷ []); is_open = true }) (record { first = line.first; text = line.text ++ text; is_open = false }) (h.0, later) (h.0, later)
 
 rise_some : (first : ℕ) (text : List ℕ) (is_open : Bool) (texts : List (List ℕ)) (low number : ℕ) → Begins low (Some (line_of first text is_open)) number →
     ((open_line : Option Logical) (from : ℕ) → Begins from open_line number → LinesRise from (logical_lines texts open_line number)) →
-    LinesRise low (ended (Some (line_of first text is_open)) ++ logical_lines texts (still_open (Some (line_of first text is_open))) number)
+    LinesRise low (ended_lines (Some (line_of first text is_open)) ++ logical_lines texts (still_open (Some (line_of first text is_open))) number)
 rise_some first text true texts low number h others = others (Some (line_of first text true)) low h
 rise_some first text false texts low number h others = (h.0, others None first h.1)
 
 rise_with : (line : Option Logical) (texts : List (List ℕ)) (low number : ℕ) → Begins low line number →
     ((open_line : Option Logical) (from : ℕ) → Begins from open_line number → LinesRise from (logical_lines texts open_line number)) →
-    LinesRise low (ended line ++ logical_lines texts (still_open line) number)
+    LinesRise low (ended_lines line ++ logical_lines texts (still_open line) number)
 rise_with None texts low number h others = others None low h
 rise_with (Some line) texts low number h others = rise_some line.first line.text line.is_open texts low number h others
 
@@ -51,13 +51,13 @@ number_by true is_open first words = refl
 number_by false true first words = refl
 number_by false false first words = refl
 
-number_judged : (line : Logical) → number_at (judged line) ≡ line.first
+number_judged : (line : Logical) → number_at (line_or_fault line) ≡ line.first
 number_judged line = number_by (nat_lt 8192 (length line.text)) line.is_open line.first (words_of line.text)
 
-rise_judged : (low : ℕ) (lines : List Logical) → LinesRise low lines → RisesAbove low (map judged lines)
+rise_judged : (low : ℕ) (lines : List Logical) → LinesRise low lines → RisesAbove low (map line_or_fault lines)
 rise_judged low [] h = tt
 rise_judged low (line ∷ others) h =
-    let P : ℕ → Type 0 = λ number. (low < number) × RisesAbove number (map judged others) in
+    let P : ℕ → Type 0 = λ number. (low < number) × RisesAbove number (map line_or_fault others) in
     subst P (sym (number_judged line)) (h.0, rise_judged line.first others h.1)
 
 rise_lower : (low high : ℕ) (lines : List (Result Worded TextFault)) → low ≤ high → RisesAbove high lines → RisesAbove low lines
@@ -83,4 +83,4 @@ pub numbers_rise : (file : List ℕ) → RisesAbove 0 (lines_of file)
 unfolding lines_from
 numbers_rise file =
     let lines = logical_lines (physical_lines file) None 1 in
-    rise_up_to 0 (filter tells (map judged lines)) (rise_filter tells 0 (map judged lines) (rise_judged 0 lines (rising_lines (physical_lines file) None 0 1 (omega arith))))
+    rise_up_to 0 (filter tells (map line_or_fault lines)) (rise_filter tells 0 (map line_or_fault lines) (rise_judged 0 lines (rising_lines (physical_lines file) None 0 1 (omega arith))))

@@ -1,5 +1,5 @@
 use Rattle.std.proofs.Common.{◌≡◌, ℕ, ◌+◌, Bool, true, false, not, List, [], ◌∷◌, length, Option, None, Some, Result, Ok, Err, refl, sym, ap, subst, ◌∙◌, length-append, arith}
-use Rattle.lic_text.specs.Physical.{is_empty, is_comment, is_continued, front_of, physical_lines}
+use Rattle.lic_text.specs.Physical.{is_empty, is_comment, is_continued, without_last, physical_lines}
 use Rattle.lic_text.specs.Lines.{fault_of, words_of, lines_from, Worded}
 use Rattle.lic_text.specs.Front.{joined_text, has_no_end, line_count, lines_behind}
 use Rattle.lic_text.specs.declared.fault.TextFault.{TextFault}
@@ -8,7 +8,7 @@ use Rattle.lic_text.proofs.Parts.{no_lines}
 
 -- the first physical line is continued by the others
 pub record IsContinued (all : List (List ℕ)) (text : List ℕ) (texts : List (List ℕ)) : Type 0 where
-  pub size : length (joined_text all) ≡ length (front_of text) + (1 + length (joined_text texts))
+  pub size : length (joined_text all) ≡ length (without_last text) + (1 + length (joined_text texts))
   pub end : has_no_end all ≡ has_no_end texts
   pub count : line_count all ≡ 1 + line_count texts
   pub behind : lines_behind all ≡ lines_behind texts
@@ -22,7 +22,7 @@ pub record IsLast (all : List (List ℕ)) (text : List ℕ) (texts : List (List 
 
 continued_here : (text : List ℕ) (texts : List (List ℕ)) → is_continued text ≡ true → IsContinued (text ∷ texts) text texts
 continued_here text texts h = record {
-  size = rw h (length-append (front_of text) (32 ∷ joined_text texts) ∙ ap (λ (n : ℕ). length (front_of text) + n) (omega arith));
+  size = rw h (length-append (without_last text) (32 ∷ joined_text texts) ∙ ap (λ (n : ℕ). length (without_last text) + n) (omega arith));
   end = rw h refl;
   count = rw h refl;
   behind = rw h refl;

@@ -1,7 +1,7 @@
 use Rattle.std.proofs.Common.{◌≡◌, ◌==◌, ℕ, zero, suc, ◌+◌, ◌-◌, if◌then◌else◌, Bool, true, false, not, List, [], ◌∷◌, ◌++◌, length, take, filter, map, Option, None, Some, Result, Ok, Err, refl}
 use Rattle.std.specs.List.{slice_split, onto_first, AllByRecursion}
-use Rattle.lic_text.specs.Physical.{is_blank, is_empty, front_of, ends_in, without_return, without_empty_end, physical_lines, is_comment, is_continued}
-use Rattle.lic_text.specs.Lines.{Logical, new_line, joined, with_line, ended, still_open, logical_lines, words_of, fault_of, unless_fault, judged, tells, up_to_fault, lines_from, lines_of, Worded, IsWordByte, IsWord, HasWords}
+use Rattle.lic_text.specs.Physical.{is_blank, is_empty, without_last, ends_in, without_return, without_empty_end, physical_lines, is_comment, is_continued}
+use Rattle.lic_text.specs.Lines.{Logical, new_line, with_text, with_line, ended_lines, still_open, logical_lines, words_of, fault_of, unless_fault, line_or_fault, tells, up_to_fault, lines_from, lines_of, Worded, IsWordByte, IsWord, HasWords}
 use Rattle.lic_text.specs.declared.fault.TextFault.{TextFault}
 
 -- no LF
@@ -62,7 +62,7 @@ no_feeds : (file : List ℕ) → AllByRecursion NoFeed (physical_lines file)
 unfolding physical_lines
 no_feeds file =
     all-map NoFeed NoFeed without_return (without_empty_end (slice_split (λ b. b == 10) file))
-    (λ text h. of_either NoFeed (ends_in 13 text) (front_of text) text (all-take (λ b. (b == 10) ≡ false) (length text - 1) text h) h)
+    (λ text h. of_either NoFeed (ends_in 13 text) (without_last text) text (all-take (λ b. (b == 10) ≡ false) (length text - 1) text h) h)
     (all-end NoFeed (slice_split (λ b. b == 10) file) (parts_are (λ _. Unit {0}) (λ b. (b == 10) ≡ false) (λ b. b == 10) file (λ x q h. h) (all_of file)))
 
 -- no LF in a logical line, where there is one
@@ -73,17 +73,17 @@ abbrev NoFeedIf : Option Logical → Type 0
 NoFeedIf None = Unit {0}
 NoFeedIf (Some line) = NoFeedIn line
 
-no_feed_joined : (line : Logical) (text : List ℕ) → NoFeedIn line → NoFeed text → NoFeedIn (joined line text)
+no_feed_joined : (line : Logical) (text : List ℕ) → NoFeedIn line → NoFeed text → NoFeedIn (with_text line text)
 no_feed_joined line text h g =
-    of_either NoFeedIn (is_continued text) (record { first = line.first; text = line.text ++ (front_of text ++ 32 ∷ []); is_open = true }) (record { first = line.first; text = line.text ++ text; is_open = false })
-    (all-append (λ b. (b == 10) ≡ false) line.text (front_of text ++ 32 ∷ []) h (all-append (λ b. (b == 10) ≡ false) (front_of text) (32 ∷ []) (all-take (λ b. (b == 10) ≡ false) (length text - 1) text g) (refl, tt)))
+    of_either NoFeedIn (is_continued text) (record { first = line.first; text = line.text ++ (without_last text ++ 32 ∷ []); is_open = true }) (record { first = line.first; text = line.text ++ text; is_open = false })
+    (all-append (λ b. (b == 10) ≡ false) line.text (without_last text ++ 32 ∷ []) h (all-append (λ b. (b == 10) ≡ false) (without_last text) (32 ∷ []) (all-take (λ b. (b == 10) ≡ false) (length text - 1) text g) (refl, tt)))
     (all-append (λ b. (b == 10) ≡ false) line.text text h g)
 
 no_feed_with : (open_line : Option Logical) (number : ℕ) (text : List ℕ) → NoFeedIf open_line → NoFeed text → NoFeedIf (with_line open_line number text)
-no_feed_with None number text h g = of_either NoFeedIf (is_comment text) None (Some (joined (new_line number) text)) tt (no_feed_joined (new_line number) text tt g)
+no_feed_with None number text h g = of_either NoFeedIf (is_comment text) None (Some (with_text (new_line number) text)) tt (no_feed_joined (new_line number) text tt g)
 no_feed_with (Some line) number text h g = no_feed_joined line text h g
 
-no_feed_ended : (line : Option Logical) → NoFeedIf line → AllByRecursion NoFeedIn (ended line)
+no_feed_ended : (line : Option Logical) → NoFeedIf line → AllByRecursion NoFeedIn (ended_lines line)
 no_feed_ended None h = tt
 no_feed_ended (Some line) h = of_either (AllByRecursion NoFeedIn) line.is_open [] (line ∷ []) tt (h, tt)
 
@@ -96,7 +96,7 @@ no_feed_lines [] None number all h = tt
 no_feed_lines [] (Some line) number all h = (h, tt)
 no_feed_lines (text ∷ texts) open_line number all h =
     let more = no_feed_with open_line number text h all.0 in
-    all-append NoFeedIn (ended (with_line open_line number text)) (logical_lines texts (still_open (with_line open_line number text)) (number + 1))
+    all-append NoFeedIn (ended_lines (with_line open_line number text)) (logical_lines texts (still_open (with_line open_line number text)) (number + 1))
     (no_feed_ended (with_line open_line number text) more) (no_feed_lines texts (still_open (with_line open_line number text)) (number + 1) all.1 (no_feed_open (with_line open_line number text) more))
 
 not_true : (b : Bool) → not b ≡ true → b ≡ false
@@ -131,7 +131,7 @@ pub words_are_words : (file : List ℕ) → AllByRecursion HasWords (lines_of fi
 unfolding lines_from
 words_are_words file =
     let lines = logical_lines (physical_lines file) None 1 in
-    all-up_to_fault (filter tells (map judged lines))
-    (all-filter AreWords HasWords tells (map judged lines) has_words_told
-    (all-map NoFeedIn AreWords judged lines (λ line h. are_words_unless (fault_of line.first (length line.text) line.is_open) (line.first, words_of line.text) (are_words line.text h))
+    all-up_to_fault (filter tells (map line_or_fault lines))
+    (all-filter AreWords HasWords tells (map line_or_fault lines) has_words_told
+    (all-map NoFeedIn AreWords line_or_fault lines (λ line h. are_words_unless (fault_of line.first (length line.text) line.is_open) (line.first, words_of line.text) (are_words line.text h))
     (no_feed_lines (physical_lines file) None 1 (no_feeds file) tt)))

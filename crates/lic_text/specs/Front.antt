@@ -1,12 +1,12 @@
 use Rattle.std.specs.Prelude.{ℕ, ◌+◌, Bool, true, false, if◌then◌else◌, List, [], ◌∷◌, ◌++◌}
-use Rattle.lic_text.specs.Physical.{is_continued, front_of}
+use Rattle.lic_text.specs.Physical.{is_continued, without_last}
 
 -- The logical line at the front of physical lines, none of them read as a comment.
 
 -- its text
 abbrev pub joined_text : List (List ℕ) → List ℕ
 joined_text [] = []
-joined_text (text ∷ texts) = if is_continued text then front_of text ++ 32 ∷ joined_text texts else text
+joined_text (text ∷ texts) = if is_continued text then without_last text ++ 32 ∷ joined_text texts else text
 
 -- whether it has no end
 abbrev pub has_no_end : List (List ℕ) → Bool

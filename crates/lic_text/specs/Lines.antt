@@ -1,7 +1,7 @@
 use Rattle.std.specs.Prelude.{◌≡◌, ◌<◌, ◌==◌, ℕ, ◌+◌, Bool, true, false, ◌&&◌, not, nat_lt, if◌then◌else◌, List, [], ◌∷◌, ◌++◌, length, filter, map, Option, None, Some, is_none, unwrap_or, Result, Ok, Err}
 use Rattle.std.specs.List.{slice_split, AllByRecursion}
 use Rattle.std.specs.Option.{option_to_list}
-use Rattle.lic_text.specs.Physical.{is_blank, is_empty, physical_lines, is_comment, is_continued, front_of}
+use Rattle.lic_text.specs.Physical.{is_blank, is_empty, physical_lines, is_comment, is_continued, without_last}
 use Rattle.lic_text.specs.declared.fault.TextFault.{TextFault}
 use Rattle.lic_text.specs.declared.fault.TextFault.TheVariants.{LineTooLong, OpenContinuation}
 
@@ -16,21 +16,21 @@ abbrev pub new_line : ℕ → Logical
 new_line number = record { first = number; text = []; is_open = true }
 
 -- a logical line with one physical line more: a space stands in the place of the backslash that continues it
-abbrev pub joined : Logical → List ℕ → Logical
-joined line text =
+abbrev pub with_text : Logical → List ℕ → Logical
+with_text line text =
     if is_continued text
-    then record { first = line.first; text = line.text ++ (front_of text ++ 32 ∷ []); is_open = true }
+    then record { first = line.first; text = line.text ++ (without_last text ++ 32 ∷ []); is_open = true }
     else record { first = line.first; text = line.text ++ text; is_open = false }
 
 -- the logical line to which a physical line belongs, as far as that; a comment belongs to none, and continues none
 abbrev pub with_line : Option Logical → ℕ → List ℕ → Option Logical
 with_line open_line number text =
-    if is_none open_line && is_comment text then None else Some (joined (unwrap_or open_line (new_line number)) text)
+    if is_none open_line && is_comment text then None else Some (with_text (unwrap_or open_line (new_line number)) text)
 
 -- the logical line where it is at its end
-abbrev pub ended : Option Logical → List Logical
-ended None = []
-ended (Some line) = if line.is_open then [] else line ∷ []
+abbrev pub ended_lines : Option Logical → List Logical
+ended_lines None = []
+ended_lines (Some line) = if line.is_open then [] else line ∷ []
 
 -- the logical line where it waits for a further physical line
 abbrev pub still_open : Option Logical → Option Logical
@@ -41,7 +41,7 @@ still_open (Some line) = if line.is_open then Some line else None
 abbrev pub logical_lines : List (List ℕ) → Option Logical → ℕ → List Logical
 logical_lines [] open_line number = option_to_list open_line
 logical_lines (text ∷ texts) open_line number =
-    ended (with_line open_line number text) ++ logical_lines texts (still_open (with_line open_line number text)) (number + 1)
+    ended_lines (with_line open_line number text) ++ logical_lines texts (still_open (with_line open_line number text)) (number + 1)
 
 -- the words of a text: its longest runs of bytes that aren't blank
 abbrev pub words_of : List ℕ → List (List ℕ)
@@ -62,8 +62,8 @@ unless_fault None line = Ok line
 unless_fault (Some fault) line = Err fault
 
 -- a logical line as its number and words, or its fault
-abbrev pub judged : Logical → Result Worded TextFault
-judged line = unless_fault (fault_of line.first (length line.text) line.is_open) (line.first, words_of line.text)
+abbrev pub line_or_fault : Logical → Result Worded TextFault
+line_or_fault line = unless_fault (fault_of line.first (length line.text) line.is_open) (line.first, words_of line.text)
 
 -- a fault, or a line with words
 abbrev pub tells : Result Worded TextFault → Bool
@@ -78,7 +78,7 @@ up_to_fault (Err fault ∷ others) = Err fault ∷ []
 
 -- the lines with words, of physical lines that are numbered from this on, ended by the first fault
 unfoldable pub lines_from : ℕ → List (List ℕ) → List (Result Worded TextFault)
-lines_from number texts = up_to_fault (filter tells (map judged (logical_lines texts None number)))
+lines_from number texts = up_to_fault (filter tells (map line_or_fault (logical_lines texts None number)))
 
 -- the lines of a file
 abbrev pub lines_of : List ℕ → List (Result Worded TextFault)

@@ -7,9 +7,9 @@ use Rattle.lic_text.specs.declared.logical.Lines.{Lines}
 use Rattle.lic_text.specs.declared.fault.TextFault.{TextFault}
 
 -- what is seen of an item
-abbrev pub shown : Result Line TextFault → Result Worded TextFault
-shown (Ok line) = Ok (worded line)
-shown (Err fault) = Err fault
+abbrev pub item_view : Result Line TextFault → Result Worded TextFault
+item_view (Ok line) = Ok (worded line)
+item_view (Err fault) = Err fault
 
 -- the lines that are left
 abbrev pub lines_left : Lines → List (Result Worded TextFault)

@@ -16,13 +16,13 @@ pub struct Lines<'a> {
 }
 
 impl<'a> Lines<'a> {
-    ghost use Rattle.lic_text.specs.LinesLeft.{lines_left, shown};
+    ghost use Rattle.lic_text.specs.LinesLeft.{lines_left, item_view};
 
     // Reads one comment or one logical line.
     fn step(&mut self) -> Option<Result<Line<'a>, TextFault>>
         requires { 0 < length self.old.rest.now }
         ensures told { MatchOption result (lines_left self.old ≡ lines_left self.new)
-            (λ told. lines_left self.old ≡ shown told ∷ lines_left self.new) }
+            (λ told. lines_left self.old ≡ item_view told ∷ lines_left self.new) }
         ensures nearer { length self.new.rest.now < length self.old.rest.now }
     {
         let from = self.rest;
@@ -51,11 +51,11 @@ impl<'a> Lines<'a> {
 
 impl<'a> Iterator for Lines<'a> {
     ghost use Rattle.std.specs.Iterator.{YieldsFirstBy, item_count};
-    ghost use Rattle.lic_text.specs.LinesLeft.{lines_left, shown};
+    ghost use Rattle.lic_text.specs.LinesLeft.{lines_left, item_view};
 
     type Item = Result<Line<'a>, TextFault>;
 
-    ghost next_gives = { YieldsFirstBy shown lines_left };
+    ghost next_gives = { YieldsFirstBy item_view lines_left };
 
     ghost remaining = { item_count lines_left };
 

@@ -1,6 +1,6 @@
 ghost use Rattle.std.specs.Prelude.{◌≡◌, ◌+◌, ◌<◌, ◌≤◌, ◌==◌, ◌∷◌, length, not, position, find, drop, MatchOption, true, false};
 ghost use Rattle.std.specs.List.{position_or_len};
-ghost use Rattle.lic_text.specs.Physical.{is_blank, ends_in, front_of, without_return, is_comment, physical_lines};
+ghost use Rattle.lic_text.specs.Physical.{is_blank, ends_in, without_last, without_return, is_comment, physical_lines};
 
 // A space or a tab.
 pub(crate) fn is_blank(b: u8) -> bool
@@ -62,7 +62,7 @@ pub(crate) fn after_blanks(bytes: &[u8]) -> &[u8]
 // The text without this byte, where it ends in it.
 pub(crate) fn strip_last(text: &[u8], byte: u8) -> Option<&[u8]>
     ensures { MatchOption result (ends_in byte text.now ≡ false)
-        (λ front. (ends_in byte text.now ≡ true) × (front.now ≡ front_of text.now)
+        (λ front. (ends_in byte text.now ≡ true) × (front.now ≡ without_last text.now)
         × (length front.now + 1 ≡ length text.now)) }
 {
     match text {

@@ -17,7 +17,7 @@ pub enum NameFault {
     /// It has more than 64 bytes.
     #[error("a name of more than 64 bytes")]
     TooLong,
-    /// The byte at this place, counted from 0, is the first that isn't from 33 to 126.
+    /// The byte at this offset, counted from 0, is the first that isn't from 33 to 126.
     #[error("a name with a bad byte at {0}")]
     BadByte(u32),
 }

@@ -9,10 +9,10 @@ const MONTHS: [[u8; 3]; 12] = [
     *b"nov", *b"dec",
 ];
 
-/// Writes a text behind the first bytes, and gives the place behind it.
+/// Writes a text behind the first bytes, and gives the offset behind it.
 fn put(room: &mut [u8; 16], at: usize, text: &[u8]) -> usize
     requires { at + length text.now ≤ 16 }
-    ensures place { result ≡ at + length text.now }
+    ensures offset { result ≡ at + length text.now }
     ensures written { take result room.new ≡ take at room.old ++ text.now }
 {
     let end = at + text.len();
@@ -30,7 +30,7 @@ fn month_name(month: u8) -> [u8; 3]
 
 fn put_day(room: &mut [u8; 16], day: u8) -> usize
     requires { day < 10 ^ 2 }
-    ensures place { result ≤ 2 }
+    ensures offset { result ≤ 2 }
     ensures written { take result room.new ≡ decimal day }
 {
     let mut buffer = Buffer::new();
@@ -40,7 +40,7 @@ fn put_day(room: &mut [u8; 16], day: u8) -> usize
 fn put_zeros(room: &mut [u8; 16], at: usize, count: usize) -> usize
     requires few { count ≤ 4 }
     requires fits { at + 4 ≤ 16 }
-    ensures place { result ≡ at + count }
+    ensures offset { result ≡ at + count }
     ensures written { take result room.new ≡ take at room.old ++ replicate count 48 }
 {
     let zeros = [b'0'; 4];
@@ -51,7 +51,7 @@ fn put_zeros(room: &mut [u8; 16], at: usize, count: usize) -> usize
 fn put_year(room: &mut [u8; 16], at: usize, year: u16) -> usize
     requires fits { at + 4 ≤ 16 }
     requires year { year < 10 ^ 4 }
-    ensures place { result ≡ at + 4 }
+    ensures offset { result ≡ at + 4 }
     ensures written { take result room.new ≡ take at room.old ++ year_text year }
 {
     let mut buffer = Buffer::new();
@@ -65,7 +65,7 @@ impl Day {
     /// without a leading zero, the first three letters of the month in English in small letters, and the year in four
     /// digits, joined by `-` (FlexNet License Administration Guide, chapter on the licence file).
     pub fn put(&self, room: &mut [u8; 16]) -> usize
-        ensures place { result ≤ 11 }
+        ensures offset { result ≤ 11 }
         ensures written { take result room.new ≡ day_text self.now }
     {
         let at = put_day(room, self.day);

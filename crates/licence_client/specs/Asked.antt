@@ -15,12 +15,12 @@ pub record Written : Type 0 where
   pub words : List (List ℕ)
 
 -- how an errand is written
-abbrev pub written : Errand → Written
-written (Ask request) = record { command = codes "ask"; words = request.now ∷ [] }
-written (Status features) = record { command = codes "status"; words = map (λ f. f.now) features.now }
-written (Hold hold) = record { command = codes "hold"; words = hold.feature.now ∷ hold.version.now ∷ [] }
-written (Reread number) = record { command = codes "reread"; words = number.now ∷ [] }
-written Shutdown = record { command = codes "shutdown"; words = [] }
+abbrev pub command_of : Errand → Written
+command_of (Ask request) = record { command = codes "ask"; words = request.now ∷ [] }
+command_of (Status features) = record { command = codes "status"; words = map (λ f. f.now) features.now }
+command_of (Hold hold) = record { command = codes "hold"; words = hold.feature.now ∷ hold.version.now ∷ [] }
+command_of (Reread number) = record { command = codes "reread"; words = number.now ∷ [] }
+command_of Shutdown = record { command = codes "shutdown"; words = [] }
 
 -- what an errand keeps of the pace
 abbrev pub KeepsPace : Pace → Errand → Type 0
@@ -32,7 +32,7 @@ KeepsPace pace Shutdown = Unit {0}
 
 -- an errand is asked for by its command and words; `status` has a feature at least
 pub record IsAskedBy (command : List ℕ) (words : List (List ℕ)) (pace : Pace) (errand : Errand) : Type 0 where
-  pub is : written errand ≡ record { command = command; words = words }
+  pub is : command_of errand ≡ record { command = command; words = words }
   pub keeps : KeepsPace pace errand
 
 abbrev pub is : List ℕ → List ℕ → Bool

@@ -13,7 +13,7 @@ use Rattle.lint_advice.specs.Text.{text_of}
 use Rattle.lint_advice.specs.declared.advice.Advice.{Advice}
 use Rattle.lint_advice.specs.declared.advice.Horizon.{Horizon}
 use Rattle.options_text.specs.Answers.{◌>>=◌}
-use Rattle.outside.specs.Told.{TakesFront, told_with}
+use Rattle.outside.specs.Told.{TakesPrefix, held_after}
 use Rattle.licence_lint.specs.Asked.{AsksHelp}
 use Rattle.licence_lint.specs.Words.{LintWords}
 use Rattle.licence_lint.specs.declared.status.LintStatus.{LintStatus}
@@ -44,8 +44,8 @@ pub record IsHeardOf (horizon : Option Horizon) (Failed : Type 0) (told : CheckF
 -- what the writing of advice says of what the sink held before and holds now: all of it was written where there is some, and a front of it where the sink's count of faults rose
 abbrev pub AdviceSays : Type 0 → Bytes → Bytes → List Advice → LintStatus → Type 0
 AdviceSays Failed old new advice (Tool tool.Done) = (advice ≡ []) × (new ≡ old)
-AdviceSays Failed old new advice Advised = (advice ≢ []) × (new ≡ told_with old (text_of advice))
-AdviceSays Failed old new advice (Tool tool.WriteFault) = (advice ≢ []) × Failed × TakesFront old new (text_of advice)
+AdviceSays Failed old new advice Advised = (advice ≢ []) × (new ≡ held_after old (text_of advice))
+AdviceSays Failed old new advice (Tool tool.WriteFault) = (advice ≢ []) × Failed × TakesPrefix old new (text_of advice)
 AdviceSays Failed old new advice (Tool tool.NoMemory) = new ≡ old
 AdviceSays Failed old new advice (Tool tool.Usage) = ⊥
 AdviceSays Failed old new advice (Tool (tool.Licence fault)) = ⊥
@@ -87,8 +87,8 @@ pub record IsLinted (horizon : Option Horizon) (Failed OutFailed : Type 0) (told
 
 -- how the writing of a text that was asked for ends
 abbrev pub ShowSays : Type 0 → Bytes → Bytes → List ℕ → LintStatus → Type 0
-ShowSays Failed old new text (Tool tool.Done) = new ≡ told_with old text
-ShowSays Failed old new text (Tool tool.WriteFault) = Failed × TakesFront old new text
+ShowSays Failed old new text (Tool tool.Done) = new ≡ held_after old text
+ShowSays Failed old new text (Tool tool.WriteFault) = Failed × TakesPrefix old new text
 ShowSays Failed old new text Advised = ⊥
 ShowSays Failed old new text (Tool tool.NoMemory) = ⊥
 ShowSays Failed old new text (Tool tool.Usage) = ⊥

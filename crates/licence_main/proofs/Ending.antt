@@ -11,7 +11,7 @@ use Rattle.feature_desk.specs.Sitters.{DeskView, Sitter}
 use Rattle.licence_office.specs.declared.closing.OfficeEnd.{OfficeEnd}
 use Rattle.licence_tool.specs.Files.{Bytes}
 use Rattle.office_view.specs.View.{View}
-use Rattle.outside.specs.Told.{TakesFront, told_with}
+use Rattle.outside.specs.Told.{TakesPrefix, held_after}
 use Rattle.licence_main.specs.Daemon.{HasRun}
 use Rattle.licence_main.specs.Ends.{IsEnding, ServedSays, SiteCounts}
 use Rattle.licence_main.specs.Terms.{TermsRead}
@@ -39,16 +39,16 @@ module _ {Z : Type 0} (terms : TermsRead) (parties : ℕ) (office : View DeskVie
   served_says (Served end) out_old out_new OutFailed status some o cause path silent ran w =
       elim w as (λ x. ServedSays parties kept AtPath old new out_old out_new OutFailed terms status) [
         | inl k ↦ subst (λ (s : DaemonStatus). ServedSays parties kept AtPath old new out_old out_new OutFailed terms s) (sym k.0)
-            (has_run end some o ran path (λ text. out_new ≡ told_with out_old text) k.1, cause.0, cause.1)
+            (has_run end some o ran path (λ text. out_new ≡ held_after out_old text) k.1, cause.0, cause.1)
         | inr k ↦ subst (λ (s : DaemonStatus). ServedSays parties kept AtPath old new out_old out_new OutFailed terms s) (sym k.0)
-            (has_run end some o ran path (λ text. TakesFront out_old out_new text) k.2, k.1)
+            (has_run end some o ran path (λ text. TakesPrefix out_old out_new text) k.2, k.1)
       ]
   served_says (Broken end) out_old out_new OutFailed status some o cause path silent ran w =
       elim w as (λ x. ServedSays parties kept AtPath old new out_old out_new OutFailed terms status) [
         | inl k ↦ subst (λ (s : DaemonStatus). ServedSays parties kept AtPath old new out_old out_new OutFailed terms s) (sym k.0)
-            (has_run end some o ran path (λ text. out_new ≡ told_with out_old text) k.1, cause)
+            (has_run end some o ran path (λ text. out_new ≡ held_after out_old text) k.1, cause)
         | inr k ↦ subst (λ (s : DaemonStatus). ServedSays parties kept AtPath old new out_old out_new OutFailed terms s) (sym k.0)
-            (has_run end some o ran path (λ text. TakesFront out_old out_new text) k.2, k.1)
+            (has_run end some o ran path (λ text. TakesPrefix out_old out_new text) k.2, k.1)
       ]
 
 -- the logs and the tallies are few enough to be numbered

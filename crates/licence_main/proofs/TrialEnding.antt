@@ -5,7 +5,7 @@ use Rattle.feature_desk.specs.Sitters.{DeskView}
 use Rattle.licence_office.specs.Offices.{IsDeskFor}
 use Rattle.licence_tool.specs.Files.{Bytes}
 use Rattle.licence_tool.specs.declared.status.Status.TheVariants as tool
-use Rattle.outside.specs.Told.{TakesFront, told_with}
+use Rattle.outside.specs.Told.{TakesPrefix, held_after}
 use Rattle.trial_run.specs.Tried.{Tried, each_alone, trial_setup}
 use Rattle.trial_run.specs.declared.player.Trial.{Trial}
 use Rattle.trial_terms.specs.Terms.{no_options, trial_pool}
@@ -37,15 +37,15 @@ has_tried n kept trial held IsText text =
 
 -- the whole text was written
 pub whole_written : (n : TrialNumbers) (kept : List Visit → Type 0) (trial : Trial) → ((desk : DeskView) × IsDeskFor (no_options ∷ []) n.clients (trial_pool n.seats) desk × Tried desk (trial_setup n.seats) n.clients kept trial)
-    → (out_old out_new : Bytes) (piece : List ℕ) → piece ≡ trial_text n trial → out_new ≡ told_with out_old piece → HasTried n kept (λ text. out_new ≡ told_with out_old text)
+    → (out_old out_new : Bytes) (piece : List ℕ) → piece ≡ trial_text n trial → out_new ≡ held_after out_old piece → HasTried n kept (λ text. out_new ≡ held_after out_old text)
 whole_written n kept trial held out_old out_new piece e h =
-    has_tried n kept trial held (λ text. out_new ≡ told_with out_old text) (subst (λ (text : List ℕ). out_new ≡ told_with out_old text) e h)
+    has_tried n kept trial held (λ text. out_new ≡ held_after out_old text) (subst (λ (text : List ℕ). out_new ≡ held_after out_old text) e h)
 
 -- a front of it was
 pub front_written : (n : TrialNumbers) (kept : List Visit → Type 0) (trial : Trial) → ((desk : DeskView) × IsDeskFor (no_options ∷ []) n.clients (trial_pool n.seats) desk × Tried desk (trial_setup n.seats) n.clients kept trial)
-    → (out_old out_new : Bytes) (piece : List ℕ) → piece ≡ trial_text n trial → TakesFront out_old out_new piece → HasTried n kept (λ text. TakesFront out_old out_new text)
+    → (out_old out_new : Bytes) (piece : List ℕ) → piece ≡ trial_text n trial → TakesPrefix out_old out_new piece → HasTried n kept (λ text. TakesPrefix out_old out_new text)
 front_written n kept trial held out_old out_new piece e h =
-    has_tried n kept trial held (λ text. TakesFront out_old out_new text) (subst (λ (text : List ℕ). TakesFront out_old out_new text) e h)
+    has_tried n kept trial held (λ text. TakesPrefix out_old out_new text) (subst (λ (text : List ℕ). TakesPrefix out_old out_new text) e h)
 
 module _ (n : TrialNumbers) (kept : List Visit → Type 0) (Unheld : Type 0) (faults_old faults_new : ℕ) (out_old out_new : Bytes) (OutFailed : Type 0) where
   -- where no fault rose, it was held, or wanted memory

@@ -12,7 +12,7 @@ use Rattle.licence_tool.specs.ToolEnds.{ToolEnds}
 use Rattle.licence_tool.specs.declared.status.Status.{Status}
 use Rattle.licence_tool.specs.declared.status.Status.TheVariants as tool
 use Rattle.licence_tool.specs.declared.words.Words.{Words}
-use Rattle.outside.specs.Told.{HasRisen, TakesFront, told_with}
+use Rattle.outside.specs.Told.{HasRisen, TakesPrefix, held_after}
 use Rattle.licence_main.specs.Daemon.{HasRun}
 use Rattle.licence_main.specs.Serve.{ServeFiles, ServeWords}
 use Rattle.licence_main.specs.Terms.{AreOfServe, TermsRead, are_all_told, terms_heard}
@@ -22,8 +22,8 @@ use Rattle.licence_main.specs.declared.status.DaemonStatus.TheVariants.{Tool, Si
 -- the text of an office's end was written whole and this is the status, or a front of it was, where the sink's count of faults rose
 abbrev pub IsWritten : DaemonStatus → OfficeEnd → Bytes → Bytes → Type 0 → DaemonStatus → Type 0
 IsWritten whole end old new OutFailed status =
-    ((status ≡ whole) × (new ≡ told_with old (logs_text end.logs.items end.tallies.items)))
-    ⊎ ((status ≡ Tool tool.WriteFault) × OutFailed × TakesFront old new (logs_text end.logs.items end.tallies.items))
+    ((status ≡ whole) × (new ≡ held_after old (logs_text end.logs.items end.tallies.items)))
+    ⊎ ((status ≡ Tool tool.WriteFault) × OutFailed × TakesPrefix old new (logs_text end.logs.items end.tallies.items))
 
 -- what is written at a daemon's end, and its status
 abbrev pub IsEnding : Ended → Bytes → Bytes → Type 0 → DaemonStatus → Type 0
@@ -45,9 +45,9 @@ module _ (parties : ℕ) (kept : List (List Visit) → Type 0) (IsAtPath : Type 
 
   -- How a `serve` ends whose files are accepted. Done and DoorFault come with the whole text of its histories: Done where the bell was heard and no door was broken, DoorFault where one was. WriteFault comes with a front of that text, where the sink's count of faults rose; SiteFault where the site's did, and then no post had a session; and with it and with want of memory nothing was written.
   abbrev pub ServedSays : TermsRead → DaemonStatus → Type 0
-  ServedSays terms (Tool tool.Done) = Serves terms (λ text. out_new ≡ told_with out_old text) × HasRisen site_old.tolls site_new.tolls × (site_new.broken ≡ site_old.broken)
-  ServedSays terms DoorFault = Serves terms (λ text. out_new ≡ told_with out_old text) × HasRisen site_old.broken site_new.broken
-  ServedSays terms (Tool tool.WriteFault) = Serves terms (λ text. TakesFront out_old out_new text) × OutFailed
+  ServedSays terms (Tool tool.Done) = Serves terms (λ text. out_new ≡ held_after out_old text) × HasRisen site_old.tolls site_new.tolls × (site_new.broken ≡ site_old.broken)
+  ServedSays terms DoorFault = Serves terms (λ text. out_new ≡ held_after out_old text) × HasRisen site_old.broken site_new.broken
+  ServedSays terms (Tool tool.WriteFault) = Serves terms (λ text. TakesPrefix out_old out_new text) × OutFailed
   ServedSays terms SiteFault = (out_new ≡ out_old) × HasRisen site_old.faults site_new.faults × ((posts : ℕ) × kept (no_sessions posts))
   ServedSays terms (Tool tool.NoMemory) = out_new ≡ out_old
   ServedSays terms (Tool tool.Usage) = ⊥

@@ -7,7 +7,7 @@ use Rattle.door_worker.specs.Visits.{Visit}
 use Rattle.licence_tool.specs.Files.{Bytes}
 use Rattle.licence_tool.specs.declared.status.Status.TheVariants as tool
 use Rattle.options_machine.specs.declared.reply.Entry.{Entry}
-use Rattle.outside.specs.Told.{HasRisen, TakesFront, told_with}
+use Rattle.outside.specs.Told.{HasRisen, TakesPrefix, held_after}
 use Rattle.policy.specs.Pools.{rules_of}
 use Rattle.trial_run.specs.Tried.{IsPlayed, each_alone, trial_setup}
 use Rattle.trial_run.specs.declared.player.Trial.{Trial}
@@ -40,8 +40,8 @@ pub record HasTried (n : TrialNumbers) (kept : List Visit → Type 0) (IsText : 
 module _ (n : TrialNumbers) (kept : List Visit → Type 0) (Unheld : Type 0) (faults_old faults_new : ℕ) (out_old out_new : Bytes) (OutFailed : Type 0) where
   -- How a `trial-threads` ends. Done comes with the whole text of its history, WriteFault with a front of it, where the sink's count of faults rose; SiteFault where the site's did, and then no session was held; and with it and with want of memory nothing was written.
   abbrev pub TrialSays : DaemonStatus → Type 0
-  TrialSays (Tool tool.Done) = HasTried n kept (λ text. out_new ≡ told_with out_old text)
-  TrialSays (Tool tool.WriteFault) = HasTried n kept (λ text. TakesFront out_old out_new text) × OutFailed
+  TrialSays (Tool tool.Done) = HasTried n kept (λ text. out_new ≡ held_after out_old text)
+  TrialSays (Tool tool.WriteFault) = HasTried n kept (λ text. TakesPrefix out_old out_new text) × OutFailed
   TrialSays SiteFault = (out_new ≡ out_old) × HasRisen faults_old faults_new × Unheld
   TrialSays (Tool tool.NoMemory) = out_new ≡ out_old
   TrialSays DoorFault = ⊥

@@ -22,11 +22,11 @@ use trial_run::{Trial, TrialFailed, try_out};
 /// How many bytes the text of a trial takes at most.
 const TRIAL_ROOM: usize = 160;
 
-/// Writes a text and a number behind it behind the first bytes, and gives the place behind them.
+/// Writes a text and a number behind it behind the first bytes, and gives the offset behind them.
 fn put_both(room: &mut [u8], at: usize, text: &[u8], n: u64) -> usize
     requires { at + length text.now + 20 ≤ length room.old }
     ensures room { length room.new ≡ length room.old }
-    ensures place { result ≤ at + length text.now + 20 }
+    ensures offset { result ≤ at + length text.now + 20 }
     ensures written { take result room.new ≡ take at room.old ++ text.now ++ decimal n }
 {
     let at = put(room, at, text);
@@ -35,7 +35,7 @@ fn put_both(room: &mut [u8], at: usize, text: &[u8], n: u64) -> usize
 
 /// Writes the text of a trial at the start of the room, and gives how many bytes it takes.
 fn put_trial(room: &mut [u8; TRIAL_ROOM], numbers: &TrialNumbers, trial: &Trial) -> usize
-    ensures place { result ≤ 160 }
+    ensures offset { result ≤ 160 }
     ensures written { take result room.new ≡ trial_text numbers.now trial.now }
 {
     let at = put_both(room, 0, b"CLIENTS ", u64::from(numbers.clients));

@@ -6,7 +6,7 @@ use Rattle.licence_tool.specs.Command.{Audit, CommandOf, Check, Replay, RunFiles
 use Rattle.licence_tool.specs.Files.{AreOfCommand, AreOfRun, AreReadings, Bytes, IsReading, are_told, is_run_told, told_by}
 use Rattle.licence_tool.specs.Outcome.{Due, IsRefuted, IsTold, outcome_of}
 use Rattle.licence_tool.specs.Status.{has_own_fault, is_refusal}
-use Rattle.licence_tool.specs.Tool.{Comes, EndSays, ForFiles, HistoriesSay, IsDone, IsSure, WritesAll, WritesFront, WritesHistories, WritesNo}
+use Rattle.licence_tool.specs.Tool.{Comes, EndSays, ForFiles, HistoriesSay, IsDone, IsSure, WritesAll, WritesPrefix, WritesHistories, WritesNo}
 use Rattle.licence_tool.proofs.Verdicts.{refuted_at, told_or_refuted}
 use Rattle.licence_tool.specs.declared.command.LogReport.{LogReport}
 use Rattle.licence_tool.specs.declared.command.ScriptReport.{ScriptReport}
@@ -81,9 +81,9 @@ pub histories : (command : Option (CommandOf (List ℕ))) (contents : List ℕ �
 histories None contents FR OR old new s p e = tt
 histories (Some names) contents FR OR old new s p e = (p.says.readings, p.says.are, subst (HistoriesSay p.says.readings old new) e p.says.histories)
 
--- a front was written
+-- a prefix was written
 pub written : (command : Option (CommandOf (List ℕ))) (contents : List ℕ → Bytes) (FR OR : Type 0) (old new : Bytes) (s : Status) → Performs command contents FR OR old new s → s ≡ WriteFault
-    → ForFiles command contents (λ told. WritesFront FR told old new)
+    → ForFiles command contents (λ told. WritesPrefix FR told old new)
 written None contents FR OR old new s p e = tt
 written (Some names) contents FR OR old new s p e =
     let says = subst (EndSays FR OR old new (outcome_of p.says.readings)) e p.says.says in

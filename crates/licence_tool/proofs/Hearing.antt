@@ -2,7 +2,7 @@ use Rattle.std.proofs.Common.{◌≡◌, ◌+◌, ◌≤◌, ◌<◌, ℕ, List,
 use Rattle.std.proofs.lemmas.List.{length-replicate}
 use Rattle.options_text.specs.Answers.{◌>>=◌}
 use Rattle.licence_tool.specs.Files.{Bytes, IsReading}
-use Rattle.licence_tool.specs.Outcome.{heard}
+use Rattle.licence_tool.specs.Outcome.{bytes_or_status}
 use Rattle.licence_tool.specs.Tool.{HearingSays, IsHeard, RefusalSays}
 use Rattle.licence_tool.specs.declared.status.Status.{Status}
 use Rattle.licence_tool.specs.declared.status.Status.TheVariants.{Done, Usage, Licence, Options, MoreOptions, Script, ReadFault, WriteFault, NoMemory, FileTooLong, AuditNo}
@@ -37,22 +37,22 @@ refusal_wider Failed Wide answer (AuditNo line) wide says = absurd says
 
 -- a file whose bytes aren't heard isn't judged
 pub unheard : {X V Y : Type 0} (view : X → Y) (bytes_of : V → List ℕ) (position : ℕ) (next : List ℕ → Result Y Status) (Failed : Type 0) (told : Bytes) (status : Status)
-    → IsHeard bytes_of (heard position) Failed told (Err status) → IsHeard view (λ (r : Bytes). heard position r >>= next) Failed told (Err status)
+    → IsHeard bytes_of (bytes_or_status position) Failed told (Err status) → IsHeard view (λ (r : Bytes). bytes_or_status position r >>= next) Failed told (Err status)
 unheard view bytes_of position next Failed told status h =
-    record { reading = h.reading; is = h.is; says = refusal_onward Failed Failed (heard position h.reading) next status (λ f. f) h.says }
+    record { reading = h.reading; is = h.is; says = refusal_onward Failed Failed (bytes_or_status position h.reading) next status (λ f. f) h.says }
 
 -- a file whose bytes are heard is judged by them
 pub judged : {X V Y : Type 0} (view : X → Y) (bytes_of : V → List ℕ) (position : ℕ) (next : List ℕ → Result Y Status) (Failed : Type 0) (told : Bytes) (bytes : V) (result : Result X Status)
-    → IsHeard bytes_of (heard position) Failed told (Ok bytes) → HearingSays view Failed (next (bytes_of bytes)) result → IsHeard view (λ (r : Bytes). heard position r >>= next) Failed told result
+    → IsHeard bytes_of (bytes_or_status position) Failed told (Ok bytes) → HearingSays view Failed (next (bytes_of bytes)) result → IsHeard view (λ (r : Bytes). bytes_or_status position r >>= next) Failed told result
 judged view bytes_of position next Failed told bytes result h says =
     record { reading = h.reading; is = h.is; says = subst (λ (a : Result (List ℕ) Status). HearingSays view Failed (a >>= next) result) (sym h.says) says }
 
 -- few enough bytes are heard
-pub heard_few : (position : ℕ) (bytes : List ℕ) → length bytes ≤ 1048576 → heard position (Some bytes) ≡ Ok bytes
+pub heard_few : (position : ℕ) (bytes : List ℕ) → length bytes ≤ 1048576 → bytes_or_status position (Some bytes) ≡ Ok bytes
 heard_few position bytes few = rw (le-ltb 1048576 (length bytes) few) refl
 
 -- and too many aren't
-pub heard_too_many : (position : ℕ) (bytes : List ℕ) → 1048576 < length bytes → heard position (Some bytes) ≡ Err (FileTooLong position)
+pub heard_too_many : (position : ℕ) (bytes : List ℕ) → 1048576 < length bytes → bytes_or_status position (Some bytes) ≡ Err (FileTooLong position)
 heard_too_many position bytes many = rw (lt-ltb 1048576 (length bytes) many) refl
 
 -- bytes that agree with what is told
@@ -82,7 +82,7 @@ are_too_many limit (Some held) many = many
 
 -- a file that is too long is heard so
 pub heard_long : {V : Type 0} (bytes_of : V → List ℕ) (position : ℕ) (Failed : Type 0) (told : Bytes) → IfSome told (λ held. 1048576 < length held)
-    → IsHeard bytes_of (heard position) Failed told (Err (FileTooLong position))
+    → IsHeard bytes_of (bytes_or_status position) Failed told (Err (FileTooLong position))
 heard_long bytes_of position Failed told many = record {
   reading = Some (too_many 1048576 told);
   is = too_many_agree 1048576 Failed told;
@@ -91,7 +91,7 @@ heard_long bytes_of position Failed told many = record {
 
 -- a file that is read is heard
 pub heard_whole : {V : Type 0} (bytes_of : V → List ℕ) (position : ℕ) (Failed : Type 0) (told : Bytes) (bytes : V) → IfSome told (λ held. bytes_of bytes ≡ held) → length (bytes_of bytes) ≤ 1048576
-    → IsHeard bytes_of (heard position) Failed told (Ok bytes)
+    → IsHeard bytes_of (bytes_or_status position) Failed told (Ok bytes)
 heard_whole bytes_of position Failed told bytes are few = record {
   reading = Some (bytes_of bytes);
   is = are;
@@ -100,10 +100,10 @@ heard_whole bytes_of position Failed told bytes are few = record {
 
 -- a file whose reading failed
 pub heard_failed : {V : Type 0} (bytes_of : V → List ℕ) (position : ℕ) (Failed : Type 0) (told : Bytes) → Failed
-    → IsHeard bytes_of (heard position) Failed told (Err (ReadFault position))
+    → IsHeard bytes_of (bytes_or_status position) Failed told (Err (ReadFault position))
 heard_failed bytes_of position Failed told failed = record { reading = None; is = failed; says = (refl, failed) }
 
 -- a file for which there was too little memory
 pub heard_without_memory : {V : Type 0} (bytes_of : V → List ℕ) (position : ℕ) (Failed : Type 0) (told : Bytes)
-    → IsHeard bytes_of (heard position) Failed told (Err NoMemory)
+    → IsHeard bytes_of (bytes_or_status position) Failed told (Err NoMemory)
 heard_without_memory bytes_of position Failed told = record { reading = agreeing told; is = is_agreeing Failed told; says = tt }

@@ -7,7 +7,7 @@ use Rattle.script_text.specs.declared.line.ScriptLine.{ScriptLine}
 use Rattle.scripts.specs.Laws.{Histories}
 use Rattle.licence_tool.specs.Command.{Audit, Replay, RunFiles}
 use Rattle.licence_tool.specs.Files.{AreReadings, Bytes, IsReading}
-use Rattle.licence_tool.specs.Outcome.{Text, Verdict, licence_heard, log_heard, options_heard, script_heard, script_told, sets_heard}
+use Rattle.licence_tool.specs.Outcome.{Text, Verdict, licence_heard, log_heard, options_heard, script_heard, script_output, sets_heard}
 use Rattle.licence_tool.specs.Tool.{HistoriesSay, IsDone, RefusalSays, WritingSays}
 use Rattle.licence_tool.proofs.Checks.{due_written, writes}
 use Rattle.licence_tool.proofs.Runs.{Hears, Owes, RunDone, run_first, run_fourth, run_second, run_third}
@@ -20,7 +20,7 @@ abbrev pub hears_script : Hears (List ScriptLine)
 hears_script licence = script_heard
 
 abbrev pub owes_output : ScriptReport → Owes (List ScriptLine)
-owes_output kind licence sets script = Text (script_told kind licence.pools sets script)
+owes_output kind licence sets script = Text (script_output kind licence.pools sets script)
 
 abbrev pub hears_log : Hears (List Numbered)
 hears_log licence = log_heard (length licence.pools)
@@ -49,7 +49,7 @@ untold kind Failed heard readings old new (AuditNo line) says = absurd says
 -- where all is written, the histories are told
 all_told : (kind : ScriptReport) (OutFailed : Type 0) (readings : RunFiles Bytes) (old new : Bytes) (status : Status) (licence : Contents) (options : OptionsFile) (script : List ScriptLine) (sets : List OptionsFile)
     → licence_heard readings.licence ≡ Ok licence → options_heard 0 readings.options ≡ Ok options → script_heard readings.third ≡ Ok script → sets_heard (options ∷ []) readings.more ≡ Ok sets
-    → Histories licence.pools sets script → WritingSays OutFailed old new (script_told kind licence.pools sets script) status → HistoriesSay (Replay kind readings) old new status
+    → Histories licence.pools sets script → WritingSays OutFailed old new (script_output kind licence.pools sets script) status → HistoriesSay (Replay kind readings) old new status
 all_told kind OutFailed readings old new Done licence options script sets says_l says_o says_s says_m histories says = record {
   licence = licence;
   options = options;
@@ -109,10 +109,10 @@ replay_fourth kind Failed OutFailed told held status l o s m licence options scr
 pub replay_last : (kind : ScriptReport) (Failed OutFailed : Type 0) (told : RunFiles Bytes) (old new : Bytes) (status : Status) (l o s : Bytes) (m : List Bytes) (licence : Contents) (options : OptionsFile) (script : List ScriptLine) (sets : List OptionsFile)
     → IsReading Failed told.licence l → IsReading Failed told.options o → IsReading Failed told.third s → AreReadings Failed told.more m
     → licence_heard l ≡ Ok licence → options_heard 0 o ≡ Ok options → script_heard s ≡ Ok script → sets_heard (options ∷ []) m ≡ Ok sets
-    → Histories licence.pools sets script → WritingSays OutFailed old new (script_told kind licence.pools sets script) status → IsDone Failed OutFailed (Replay kind told) old new status
+    → Histories licence.pools sets script → WritingSays OutFailed old new (script_output kind licence.pools sets script) status → IsDone Failed OutFailed (Replay kind told) old new status
 replay_last kind Failed OutFailed told old new status l o s m licence options script sets is_l is_o is_s are_m says_l says_o says_s says_m histories says = record {
   readings = Replay kind (record { licence = l; options = o; third = s; more = m });
   are = (refl, record { licence = is_l; options = is_o; third = is_s; more = are_m });
-  says = writes Failed OutFailed old new (Text (script_told kind licence.pools sets script)) _ status (rw (says_l, says_o, says_s, says_m) refl) (due_written OutFailed old new (script_told kind licence.pools sets script) status says);
+  says = writes Failed OutFailed old new (Text (script_output kind licence.pools sets script)) _ status (rw (says_l, says_o, says_s, says_m) refl) (due_written OutFailed old new (script_output kind licence.pools sets script) status says);
   histories = all_told kind OutFailed _ old new status licence options script sets says_l says_o says_s says_m histories says;
 }

@@ -10,7 +10,7 @@ use Rattle.options_machine.specs.declared.reply.Entry.{Entry}
 use Rattle.options_machine.specs.declared.reply.Reply.{Reply}
 use Rattle.log_audit.specs.Audit.{ArePlaces, IsFirstBad, IsRunLog, IsRunOf, entry_of, is_of_pool, of_pool}
 use Rattle.log_audit.specs.declared.log.Numbered.{Numbered}
-use Rattle.outside.specs.Told.{TakesFront, told_with}
+use Rattle.outside.specs.Told.{TakesPrefix, held_after}
 use Rattle.licence_tool.specs.AuditText.{no_text}
 use Rattle.licence_tool.specs.Files.{Bytes}
 use Rattle.licence_tool.specs.Outcome.{Due, IsRefuted, IsTold, Text, Verdict}
@@ -19,7 +19,7 @@ use Rattle.licence_tool.specs.declared.command.LogReport.{LogReport}
 use Rattle.licence_tool.specs.declared.command.LogReport.TheVariants.{Users, Days}
 use Rattle.licence_tool.specs.declared.status.Status.TheVariants.{AuditNo, WriteFault}
 
--- A front of a run is a run.
+-- A prefix of a run is a run.
 
 runs_front : (sets : List Rules) (s : State) (h more : List Entry) → RunsFrom sets s (h ++ more) → RunsFrom sets s h
 runs_front sets s [] more run = tt
@@ -94,14 +94,14 @@ pub refuted_at : (due : Due) (text other : List ℕ) (line at : ℕ) → IsRefut
 refuted_at (Text due) text other line at h k = absurd h
 refuted_at (Verdict report pools rules log) text other line at h k = one_bad rules log line h.place h.moment h.said at k.place k.moment k.said h.first k.first
 
--- The line of a log that is no run was written, or a front of it.
+-- The line of a log that is no run was written, or a prefix of it.
 
 pub no_written : (OutFailed : Type 0) (old new : Bytes) (report : LogReport) (pools : List Pool) (rules : List (List Rules)) (log : List Numbered) (line place moment : ℕ) (said : Reply)
-    → IsFirstBad rules log line place moment said → new ≡ told_with old (no_text line place moment said) → DueSays OutFailed old new (Verdict report pools rules log) (AuditNo line)
+    → IsFirstBad rules log line place moment said → new ≡ held_after old (no_text line place moment said) → DueSays OutFailed old new (Verdict report pools rules log) (AuditNo line)
 no_written OutFailed old new report pools rules log line place moment said first is =
     (no_text line place moment said, record { place = place; moment = moment; said = said; first = first; is = refl }, is)
 
 pub no_unwritten : (OutFailed : Type 0) (old new : Bytes) (report : LogReport) (pools : List Pool) (rules : List (List Rules)) (log : List Numbered) (line place moment : ℕ) (said : Reply)
-    → IsFirstBad rules log line place moment said → OutFailed → TakesFront old new (no_text line place moment said) → DueSays OutFailed old new (Verdict report pools rules log) WriteFault
+    → IsFirstBad rules log line place moment said → OutFailed → TakesPrefix old new (no_text line place moment said) → DueSays OutFailed old new (Verdict report pools rules log) WriteFault
 no_unwritten OutFailed old new report pools rules log line place moment said first failed front =
     (failed, (no_text line place moment said, inr (line, record { place = place; moment = moment; said = said; first = first; is = refl }), front))

@@ -73,11 +73,11 @@ abbrev pub run_named : RunNames → RunFiles (List ℕ)
 run_named names = record { licence = names.licence.now; options = names.options.now; third = names.third.now; more = map string_bytes names.more.now }
 
 -- a command as the names of its files
-abbrev pub named : Command → CommandOf (List ℕ)
-named (Checks licence options) = Check (record { licence = licence.now; options = options.now })
-named (Replays kind names) = Replay kind (run_named names)
-named (Audits report names) = Audit report (run_named names)
-named (Trials events) = Trial events
+abbrev pub file_names : Command → CommandOf (List ℕ)
+file_names (Checks licence options) = Check (record { licence = licence.now; options = options.now })
+file_names (Replays kind names) = Replay kind (run_named names)
+file_names (Audits report names) = Audit report (run_named names)
+file_names (Trials events) = Trial events
 
 -- a command names three further options files at most, and a trial has 1,000,000 events at most
 abbrev pub IsWithinLimits : Command → Type 0

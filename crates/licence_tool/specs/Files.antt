@@ -7,14 +7,14 @@ abbrev pub Bytes : Type 0
 Bytes = Option (List ℕ)
 
 -- what the files of a replay, a report, an audit or a usage hold, as far as that is told
-abbrev pub run_told : (List ℕ → Bytes) → RunFiles (List ℕ) → RunFiles Bytes
-run_told contents names = record { licence = contents names.licence; options = contents names.options; third = contents names.third; more = map contents names.more }
+abbrev pub run_contents : (List ℕ → Bytes) → RunFiles (List ℕ) → RunFiles Bytes
+run_contents contents names = record { licence = contents names.licence; options = contents names.options; third = contents names.third; more = map contents names.more }
 
 -- what the files of a command hold, as far as that is told
 abbrev pub told_by : (List ℕ → Bytes) → CommandOf (List ℕ) → CommandOf Bytes
 told_by contents (Check names) = Check (record { licence = contents names.licence; options = contents names.options })
-told_by contents (Replay kind names) = Replay kind (run_told contents names)
-told_by contents (Audit report names) = Audit report (run_told contents names)
+told_by contents (Replay kind names) = Replay kind (run_contents contents names)
+told_by contents (Audit report names) = Audit report (run_contents contents names)
 told_by contents (Trial events) = Trial events
 
 abbrev pub is_run_told : RunFiles Bytes → Bool

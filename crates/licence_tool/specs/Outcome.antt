@@ -27,9 +27,9 @@ use Rattle.licence_tool.specs.declared.status.Status.{Status}
 use Rattle.licence_tool.specs.declared.status.Status.TheVariants.{Licence, Options, MoreOptions, Script, ReadFault, FileTooLong}
 
 -- the bytes of the file at this position, unless its reading failed or it is longer than 1,048,576 bytes
-abbrev pub heard : ℕ → Bytes → Result (List ℕ) Status
-heard position None = Err (ReadFault position)
-heard position (Some bytes) = if nat_lt 1048576 (length bytes) then Err (FileTooLong position) else Ok bytes
+abbrev pub bytes_or_status : ℕ → Bytes → Result (List ℕ) Status
+bytes_or_status position None = Err (ReadFault position)
+bytes_or_status position (Some bytes) = if nat_lt 1048576 (length bytes) then Err (FileTooLong position) else Ok bytes
 
 -- what a file says, or the status of its fault
 abbrev pub accepted : {X E : Type 0} → (E → Status) → Result X E → Result X Status
@@ -38,7 +38,7 @@ accepted refused (Err fault) = Err (refused fault)
 
 -- the licence file, which is the first
 unfoldable pub licence_heard : Bytes → Result Contents Status
-licence_heard reading = heard 1 reading >>= λ bytes. accepted Licence (licence_of bytes)
+licence_heard reading = bytes_or_status 1 reading >>= λ bytes. accepted Licence (licence_of bytes)
 
 -- the position of the options file of a rule set: OPTIONS has number 0 and stands second, the further ones stand behind the third file
 abbrev pub position_of_set : ℕ → ℕ
@@ -50,15 +50,15 @@ options_status set fault = if set == 0 then Options fault else MoreOptions set f
 
 -- the options file of the rule set of this number
 unfoldable pub options_heard : ℕ → Bytes → Result OptionsFile Status
-options_heard set reading = heard (position_of_set set) reading >>= λ bytes. accepted (options_status set) (options_of bytes)
+options_heard set reading = bytes_or_status (position_of_set set) reading >>= λ bytes. accepted (options_status set) (options_of bytes)
 
 -- the script, which is the third file
 unfoldable pub script_heard : Bytes → Result (List ScriptLine) Status
-script_heard reading = heard 3 reading >>= λ bytes. accepted Script (script_of bytes)
+script_heard reading = bytes_or_status 3 reading >>= λ bytes. accepted Script (script_of bytes)
 
 -- the entries of the log, which is the third file, at so many pools
 unfoldable pub log_heard : ℕ → Bytes → Result (List Numbered) Status
-log_heard pools reading = heard 3 reading >>= λ bytes. accepted Script (log_of pools bytes)
+log_heard pools reading = bytes_or_status 3 reading >>= λ bytes. accepted Script (log_of pools bytes)
 
 -- the options of these rule sets, and behind them those of the further options files, each of which is of the rule set whose number is how many stand before it
 unfoldable pub sets_heard : List OptionsFile → List Bytes → Result (List OptionsFile) Status
@@ -103,13 +103,13 @@ run_outcome third_heard due readings =
     Ok (due licence sets third))))
 
 -- what is told of a script at these pools, by the rules of these options files: its replies, or how the pools stand after it
-abbrev pub script_told : ScriptReport → List Pool → List OptionsFile → List ScriptLine → List ℕ
-script_told Replies pools sets script = output_of pools sets script
-script_told Pools pools sets script = report_of pools sets script
+abbrev pub script_output : ScriptReport → List Pool → List OptionsFile → List ScriptLine → List ℕ
+script_output Replies pools sets script = output_of pools sets script
+script_output Pools pools sets script = report_of pools sets script
 
 -- what comes of a replay or a report: what is told of its script
 abbrev pub replay_outcome : ScriptReport → RunFiles Bytes → Result Due Status
-replay_outcome kind readings = run_outcome (λ licence. script_heard) (λ licence sets script. Text (script_told kind licence.pools sets script)) readings
+replay_outcome kind readings = run_outcome (λ licence. script_heard) (λ licence sets script. Text (script_output kind licence.pools sets script)) readings
 
 -- what comes of an audit or a usage: the verdict on the log's entries
 abbrev pub audit_outcome : LogReport → RunFiles Bytes → Result Due Status

@@ -1,12 +1,12 @@
 use Rattle.std.specs.Prelude.{◌≡◌, ℕ, ◌⊎◌, true, List, [], ◌∷◌, Option, IfSome, Result, Ok, Err}
 use Rattle.options_text.specs.Options.{OptionsFile}
-use Rattle.outside.specs.Told.{TakesFront, told_with}
+use Rattle.outside.specs.Told.{TakesPrefix, held_after}
 use Rattle.feature_lines.specs.Licence.{Contents}
 use Rattle.script_text.specs.declared.line.ScriptLine.{ScriptLine}
 use Rattle.scripts.specs.Laws.{Histories}
 use Rattle.licence_tool.specs.Command.{Audit, CommandOf, Check, Replay, RunFiles, Trial}
 use Rattle.licence_tool.specs.Files.{AreOfCommand, AreReadings, Bytes, IsReading, told_by}
-use Rattle.licence_tool.specs.Outcome.{Due, IsRefuted, IsTold, licence_heard, options_heard, outcome_of, script_heard, script_told, sets_heard}
+use Rattle.licence_tool.specs.Outcome.{Due, IsRefuted, IsTold, licence_heard, options_heard, outcome_of, script_heard, script_output, sets_heard}
 use Rattle.options_machine.specs.Run.{IsRun}
 use Rattle.trial_replay.specs.Replayed.{run_of}
 use Rattle.trial_replay.specs.Terms.{bench_sets}
@@ -31,19 +31,19 @@ IsSure told outcome = (readings : CommandOf Bytes) → AreOfCommand ⊥ told rea
 
 -- the whole of a text that comes of the files was written
 abbrev pub WritesAll : Type 0 → CommandOf Bytes → Bytes → Bytes → Type 0
-WritesAll Failed told old new = (due : Due) × (text : List ℕ) × Comes Failed told (Ok due) × IsTold due text × (new ≡ told_with old text)
+WritesAll Failed told old new = (due : Due) × (text : List ℕ) × Comes Failed told (Ok due) × IsTold due text × (new ≡ held_after old text)
 
 -- the whole of a text was written that tells that this line of the log is the first that shows that it is no run
 abbrev pub WritesNo : Type 0 → CommandOf Bytes → ℕ → Bytes → Bytes → Type 0
-WritesNo Failed told line old new = (due : Due) × (text : List ℕ) × Comes Failed told (Ok due) × IsRefuted due line text × (new ≡ told_with old text)
+WritesNo Failed told line old new = (due : Due) × (text : List ℕ) × Comes Failed told (Ok due) × IsRefuted due line text × (new ≡ held_after old text)
 
 -- this text is what is due, be the command done with it or not
 abbrev pub IsDue : Due → List ℕ → Type 0
 IsDue due text = IsTold due text ⊎ ((line : ℕ) × IsRefuted due line text)
 
--- a front of such a text was written
-abbrev pub WritesFront : Type 0 → CommandOf Bytes → Bytes → Bytes → Type 0
-WritesFront Failed told old new = (due : Due) × (text : List ℕ) × Comes Failed told (Ok due) × IsDue due text × TakesFront old new text
+-- a prefix of such a text was written
+abbrev pub WritesPrefix : Type 0 → CommandOf Bytes → Bytes → Bytes → Type 0
+WritesPrefix Failed told old new = (due : Due) × (text : List ℕ) × Comes Failed told (Ok due) × IsDue due text × TakesPrefix old new text
 
 -- what a status says of an answer: want of memory nothing, and one of a file that it is the answer; a read fault comes only where a reading failed
 abbrev pub RefusalSays : {Y : Type 0} → Type 0 → Result Y Status → Status → Type 0
@@ -83,8 +83,8 @@ status_of (Err status) = status
 
 -- what the writing of a text says: of what the sink held before and holds now, and of its count of faults
 abbrev pub WritingSays : Type 0 → Bytes → Bytes → List ℕ → Status → Type 0
-WritingSays Failed old new text Done = new ≡ told_with old text
-WritingSays Failed old new text WriteFault = Failed × TakesFront old new text
+WritingSays Failed old new text Done = new ≡ held_after old text
+WritingSays Failed old new text WriteFault = Failed × TakesPrefix old new text
 WritingSays Failed old new text NoMemory = new ≡ old
 WritingSays Failed old new text Usage = ⊥
 WritingSays Failed old new text (Licence fault) = ⊥
@@ -97,9 +97,9 @@ WritingSays Failed old new text (AuditNo line) = ⊥
 
 -- the same of what is due
 abbrev pub DueSays : Type 0 → Bytes → Bytes → Due → Status → Type 0
-DueSays Failed old new due Done = (text : List ℕ) × IsTold due text × (new ≡ told_with old text)
-DueSays Failed old new due (AuditNo line) = (text : List ℕ) × IsRefuted due line text × (new ≡ told_with old text)
-DueSays Failed old new due WriteFault = Failed × ((text : List ℕ) × IsDue due text × TakesFront old new text)
+DueSays Failed old new due Done = (text : List ℕ) × IsTold due text × (new ≡ held_after old text)
+DueSays Failed old new due (AuditNo line) = (text : List ℕ) × IsRefuted due line text × (new ≡ held_after old text)
+DueSays Failed old new due WriteFault = Failed × ((text : List ℕ) × IsDue due text × TakesPrefix old new text)
 DueSays Failed old new due NoMemory = new ≡ old
 DueSays Failed old new due Usage = ⊥
 DueSays Failed old new due (Licence fault) = ⊥
@@ -134,7 +134,7 @@ pub record TellsHistories (kind : ScriptReport) (readings : RunFiles Bytes) (old
   pub script_is : script_heard readings.third ≡ Ok script
   pub sets_is : sets_heard (options ∷ []) readings.more ≡ Ok sets
   pub histories : Histories licence.pools sets script
-  pub written : new ≡ told_with old (script_told kind licence.pools sets script)
+  pub written : new ≡ held_after old (script_output kind licence.pools sets script)
 
 -- what a status says of the histories of a replay or a report, and that a trial's events are a run of its pool's rules
 abbrev pub HistoriesSay : CommandOf Bytes → Bytes → Bytes → Status → Type 0
@@ -164,7 +164,7 @@ pub record IsDone (Failed OutFailed : Type 0) (told : CommandOf Bytes) (old new 
   pub says : EndSays Failed OutFailed old new (outcome_of readings) status
   pub histories : HistoriesSay readings old new status
 
--- standard error gained just this line, or a front of it where its count of faults rose
+-- standard error gained just this line, or a prefix of it where its count of faults rose
 abbrev pub GainsLine : Bytes → Bytes → Type 0 → List ℕ → Type 0
 GainsLine old new Failed [] = new ≡ old
-GainsLine old new Failed (b ∷ line) = (new ≡ told_with old (b ∷ line)) ⊎ (Failed × TakesFront old new (b ∷ line))
+GainsLine old new Failed (b ∷ line) = (new ≡ held_after old (b ∷ line)) ⊎ (Failed × TakesPrefix old new (b ∷ line))

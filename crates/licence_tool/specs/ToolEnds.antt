@@ -5,7 +5,7 @@ use Rattle.licence_tool.specs.Command.{third_in}
 use Rattle.licence_tool.specs.Files.{Bytes, are_told}
 use Rattle.licence_tool.specs.Outcome.{Due, IsRefuted, IsTold, outcome_of}
 use Rattle.licence_tool.specs.Status.{has_own_fault, is_refusal, line_of}
-use Rattle.licence_tool.specs.Tool.{Comes, ForFiles, GainsLine, IsSure, WritesAll, WritesFront, WritesHistories, WritesNo}
+use Rattle.licence_tool.specs.Tool.{Comes, ForFiles, GainsLine, IsSure, WritesAll, WritesPrefix, WritesHistories, WritesNo}
 use Rattle.licence_tool.specs.Words.{IsNoCommand, command_in}
 use Rattle.licence_tool.specs.declared.status.Status.{Status}
 use Rattle.licence_tool.specs.declared.status.Status.TheVariants.{Done, Usage, ReadFault, WriteFault, NoMemory, AuditNo}
@@ -20,7 +20,7 @@ pub record ToolEnds (words : Words) (contents : List ℕ → Bytes) (asked_old a
   pub done : status ≡ Done → ForFiles (command_in words) contents (λ told. WritesAll (HasFailed failed_old failed_new) told out_old out_new)
   pub not_run : (line : ℕ) → status ≡ AuditNo line → ForFiles (command_in words) contents (λ told. WritesNo (HasFailed failed_old failed_new) told line out_old out_new)
   pub histories : status ≡ Done → ForFiles (command_in words) contents (λ told. WritesHistories (HasFailed failed_old failed_new) told out_old out_new)
-  pub written : status ≡ WriteFault → ForFiles (command_in words) contents (λ told. WritesFront (HasFailed failed_old failed_new) told out_old out_new)
+  pub written : status ≡ WriteFault → ForFiles (command_in words) contents (λ told. WritesPrefix (HasFailed failed_old failed_new) told out_old out_new)
   pub unwritten : status ≢ Done → ((line : ℕ) → status ≢ AuditNo line) → status ≢ WriteFault → out_new ≡ out_old
   pub refused : is_refusal status ≡ true → ForFiles (command_in words) contents (λ told. Comes (HasFailed failed_old failed_new) told (Err status))
   pub own_fault : has_own_fault status ≡ true

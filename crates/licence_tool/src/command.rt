@@ -1,7 +1,7 @@
 ghost use Rattle.std.specs.Prelude.{◌≡◌, ◌≤◌, IfSome, length, map, string_bytes};
 ghost use Rattle.std.specs.List.{list_all};
 ghost use Rattle.std.specs.Option.{option_map};
-ghost use Rattle.licence_tool.specs.Command.{IsWithinLimits, check_of, command_of, events_of, is_plain_word, named, run_named, run_of, third_in};
+ghost use Rattle.licence_tool.specs.Command.{IsWithinLimits, check_of, command_of, events_of, is_plain_word, file_names, run_named, run_of, third_in};
 ghost use Rattle.licence_tool.specs.Words.{command_in};
 
 use crate::numbers::number_within;
@@ -90,7 +90,7 @@ fn are_plain(words: &[String]) -> bool
 
 /// The check of two words that may name files. `None` comes exactly where they aren't.
 fn read_check(names: &[String]) -> Option<Command<'_>>
-    ensures { option_map named result ≡ check_of (map string_bytes names.now) }
+    ensures { option_map file_names result ≡ check_of (map string_bytes names.now) }
 {
     let [licence, options] = names else {
         return None;
@@ -142,7 +142,7 @@ fn read_events(words: &[String]) -> Option<u32>
 /// two words that may name files, nor `replay`, `report`, `audit` or `usage` and three to six of them, nor `trial-replay` and a
 /// number from 1 to 1,000,000.
 pub fn read_command(words: &[String]) -> Option<Command<'_>>
-    ensures command { option_map named result ≡ command_of (map string_bytes words.now) }
+    ensures command { option_map file_names result ≡ command_of (map string_bytes words.now) }
     ensures within { IfSome result IsWithinLimits }
 {
     let [verb, names @ ..] = words else {

@@ -15,7 +15,7 @@ use script_words::ScriptFault;
 
 /// Writes what the options file of a rule set behind the first is called.
 fn put_set(room: &mut [u8; ROOM], set: u8) -> usize
-    ensures place { result ≤ 28 }
+    ensures offset { result ≤ 28 }
     ensures written { take result room.new ≡ set_called set }
 {
     let at = put(room, 0, b"options ");
@@ -24,7 +24,7 @@ fn put_set(room: &mut [u8; ROOM], set: u8) -> usize
 
 /// Writes what the third file is called.
 fn put_third(room: &mut [u8; ROOM], third: Third) -> usize
-    ensures place { result ≤ 28 }
+    ensures offset { result ≤ 28 }
     ensures written { take result room.new ≡ third_called third }
 {
     match third {
@@ -35,7 +35,7 @@ fn put_third(room: &mut [u8; ROOM], third: Third) -> usize
 
 /// Writes what the file at a position is called.
 fn put_file(room: &mut [u8; ROOM], third: Third, file: u8) -> usize
-    ensures place { result ≤ 28 }
+    ensures offset { result ≤ 28 }
     ensures written { take result room.new ≡ file_called third file }
 {
     match file {
@@ -49,7 +49,7 @@ fn put_file(room: &mut [u8; ROOM], third: Third, file: u8) -> usize
 /// Writes the number of a line at fault behind what its file is called.
 fn put_line(room: &mut [u8; ROOM], at: usize, line: u32) -> usize
     requires { at ≤ 28 }
-    ensures place { result ≤ at + 29 }
+    ensures offset { result ≤ at + 29 }
     ensures written { take result room.new ≡ take at room.old ++ codes ": line " ++ decimal line ++ codes ": " }
 {
     let at = put(room, at, b": line ");
@@ -58,7 +58,7 @@ fn put_line(room: &mut [u8; ROOM], at: usize, line: u32) -> usize
 }
 
 fn put_licence_fault(room: &mut [u8; ROOM], fault: &LicenceFault) -> usize
-    ensures place { result ≤ 96 }
+    ensures offset { result ≤ 96 }
     ensures written { take result room.new ≡ fault_line (codes "licence") (licence_line fault.now) (licence_text fault.now) }
 {
     let at = put(room, 0, b"licence");
@@ -70,7 +70,7 @@ fn put_licence_fault(room: &mut [u8; ROOM], fault: &LicenceFault) -> usize
 /// Writes the fault of an options file behind what the file is called.
 fn put_options_fault(room: &mut [u8; ROOM], at: usize, fault: &OptionsFault) -> usize
     requires { at ≤ 28 }
-    ensures place { result ≤ 96 }
+    ensures offset { result ≤ 96 }
     ensures written { take result room.new ≡ fault_line (take at room.old) (options_line fault.now) (options_text fault.now) }
 {
     let at = put_line(room, at, options_line(fault));
@@ -79,7 +79,7 @@ fn put_options_fault(room: &mut [u8; ROOM], at: usize, fault: &OptionsFault) -> 
 }
 
 fn put_script_fault(room: &mut [u8; ROOM], third: Third, fault: &ScriptFault) -> usize
-    ensures place { result ≤ 96 }
+    ensures offset { result ≤ 96 }
     ensures written { take result room.new ≡ line_of third (Status.Script fault.now) }
 {
     let at = put_third(room, third);
@@ -92,7 +92,7 @@ fn put_script_fault(room: &mut [u8; ROOM], third: Third, fault: &ScriptFault) ->
 /// takes: none for `Done`. `third` is what the command's third file is called in it. The bytes of the room behind the line are
 /// left open. The lines are this project's own.
 pub fn put_status(room: &mut [u8; ROOM], third: Third, status: &Status) -> usize
-    ensures place { result ≤ 96 }
+    ensures offset { result ≤ 96 }
     ensures written { take result room.new ≡ line_of third status.now }
 {
     match status {
@@ -122,7 +122,7 @@ pub fn put_status(room: &mut [u8; ROOM], third: Third, status: &Status) -> usize
     }
 }
 
-/// Writes a line to standard error, unless it is empty. A write that fails is told to nobody; a front of the line was written
+/// Writes a line to standard error, unless it is empty. A write that fails is told to nobody; a prefix of the line was written
 /// then.
 pub fn write_line<E: Sink>(err: &mut E, line: &[u8])
     ensures { GainsLine (E.held err.old) (E.held err.new) (HasRisen (E.faults err.old) (E.faults err.new)) line.now }

@@ -43,10 +43,10 @@ pub fn licence_line(fault: &LicenceFault) -> u32
     }
 }
 
-/// Writes what is printed of a fault of a licence behind the first bytes, and gives the place behind it.
+/// Writes what is printed of a fault of a licence behind the first bytes, and gives the offset behind it.
 pub fn put_licence_text(room: &mut [u8; ROOM], at: usize, fault: &LicenceFault) -> usize
     requires { at + 29 ≤ 96 }
-    ensures place { result ≤ at + 29 }
+    ensures offset { result ≤ at + 29 }
     ensures written { take result room.new ≡ take at room.old ++ licence_text fault.now }
 {
     match fault {

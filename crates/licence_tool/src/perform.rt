@@ -14,7 +14,7 @@ ghost use Rattle.trial_replay.specs.Terms.{bench_sets};
 ghost use Rattle.licence_tool.specs.Asked.{Asks, HasFailed, files_of};
 ghost use Rattle.licence_tool.specs.AuditText.{no_text};
 ghost use Rattle.licence_tool.specs.Command.{command_of, Audit, Check, Replay};
-ghost use Rattle.licence_tool.specs.Outcome.{IsRunText, Verdict, script_told};
+ghost use Rattle.licence_tool.specs.Outcome.{IsRunText, Verdict, script_output};
 ghost use Rattle.licence_tool.specs.Tool.{DueSays, ForFiles, IsDone, WritingSays, status_of};
 ghost use Rattle.licence_tool.specs.Words.{IsNoCommand, command_in};
 
@@ -116,7 +116,7 @@ fn write_replay<O: Sink>(
     requires fit { list_all is_fit script.now ≡ true }
     requires some { 0 < length sets.now }
     requires few { length sets.now ≤ 4 }
-    ensures says { WritingSays (HasRisen (O.faults out.old) (O.faults out.new)) (O.held out.old) (O.held out.new) (script_told report licence.now.pools sets.now script.now) (status_of result) }
+    ensures says { WritingSays (HasRisen (O.faults out.old) (O.faults out.new)) (O.held out.old) (O.held out.new) (script_output report licence.now.pools sets.now script.now) (status_of result) }
     ensures histories { Histories licence.now.pools sets.now script.now }
 {
     match report {

@@ -7,7 +7,7 @@ ghost use Rattle.options_text.specs.Options.{OptionsFile};
 ghost use Rattle.log_audit.specs.Log.{is_fit as is_fit_at};
 ghost use Rattle.script_text.specs.Fits.{is_fit};
 ghost use Rattle.licence_tool.specs.Asked.{Asks, HasFailed, IsOf};
-ghost use Rattle.licence_tool.specs.Outcome.{accepted, heard, licence_heard, log_heard, options_heard, options_status, position_of_set, script_heard, sets_heard};
+ghost use Rattle.licence_tool.specs.Outcome.{accepted, bytes_or_status, licence_heard, log_heard, options_heard, options_status, position_of_set, script_heard, sets_heard};
 ghost use Rattle.licence_tool.specs.Tool.{AreHeard, IsHeard, RefusalSays, status_of};
 
 use crate::status::Status;
@@ -28,7 +28,7 @@ fn read_file<F: Files>(
     name: &str,
     position: u8,
 ) -> Result<Vec<u8>, Status>
-    ensures says { IsHeard (λ v. v.items) (heard position) (HasFailed (F.failed files.old) (F.failed files.new)) (F.contents files.old name.now) result }
+    ensures says { IsHeard (λ v. v.items) (bytes_or_status position) (HasFailed (F.failed files.old) (F.failed files.new)) (F.contents files.old name.now) result }
     ensures short { IfOk result (λ v. vec_len v ≤ FILE_LIMIT) }
     ensures asked { Asks position (name.now ∷ []) (F.asked files.old) (F.asked files.new) (F.failed files.old) (F.failed files.new) (status_of result) }
     ensures later { length (F.failed files.old) ≤ length (F.failed files.new) }

@@ -5,7 +5,7 @@ ghost use Rattle.licence_tool.specs.Command.{third_in};
 ghost use Rattle.licence_tool.specs.Files.{are_told};
 ghost use Rattle.licence_tool.specs.Outcome.{Due, IsRefuted, IsTold, outcome_of};
 ghost use Rattle.licence_tool.specs.Status.{has_own_fault, is_refusal, line_of};
-ghost use Rattle.licence_tool.specs.Tool.{Comes, ForFiles, GainsLine, IsSure, WritesAll, WritesFront, WritesHistories, WritesNo};
+ghost use Rattle.licence_tool.specs.Tool.{Comes, ForFiles, GainsLine, IsSure, WritesAll, WritesPrefix, WritesHistories, WritesNo};
 ghost use Rattle.licence_tool.specs.Words.{IsNoCommand, command_in};
 
 use crate::command::third_of;
@@ -58,10 +58,10 @@ pub fn tool<F: Files, O: Sink, E: Sink>(
         → ForFiles (command_in words.now) (F.contents files.old)
         (λ told. WritesHistories (HasFailed (F.failed files.old) (F.failed files.new)) told (O.held out.old) (O.held out.new)) }
 
-    // On WriteFault it gained a front of what was to be written, and else nothing.
+    // On WriteFault it gained a prefix of what was to be written, and else nothing.
     ensures written { result ≡ Status.WriteFault
         → ForFiles (command_in words.now) (F.contents files.old)
-        (λ told. WritesFront (HasFailed (F.failed files.old) (F.failed files.new)) told (O.held out.old) (O.held out.new)) }
+        (λ told. WritesPrefix (HasFailed (F.failed files.old) (F.failed files.new)) told (O.held out.old) (O.held out.new)) }
     ensures unwritten { result ≢ Status.Done → ((line : ℕ) → result ≢ Status.AuditNo line) → result ≢ Status.WriteFault → O.held out.new ≡ O.held out.old }
 
     // A status of a file that is refused or too long is what comes of the files, and its fault is never want of memory.
@@ -79,7 +79,7 @@ pub fn tool<F: Files, O: Sink, E: Sink>(
     // A write fault comes only where the count of faults rose.
     ensures write_fault { result ≡ Status.WriteFault → HasRisen (O.faults out.old) (O.faults out.new) }
 
-    // Standard error gained exactly the line of the status, which is none on Done, or a front of it at a fault of its
+    // Standard error gained exactly the line of the status, which is none on Done, or a prefix of it at a fault of its
     // own.
     ensures err_line { GainsLine (E.held err.old) (E.held err.new)
         (HasRisen (E.faults err.old) (E.faults err.new)) (line_of (third_in (command_in words.now)) result) }

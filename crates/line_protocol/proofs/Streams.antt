@@ -1,7 +1,7 @@
 -- A stream has one reading.
 use Rattle.std.proofs.Common.{◌≡◌, ◌≢◌, ℕ, List, [], ◌∷◌, ◌++◌, refl, sym}
 use Rattle.std.proofs.lemmas.List.Elements.{All-head, All-tail}
-use Rattle.line_protocol.specs.Streams.{IsFlat, joined, OneReading}
+use Rattle.line_protocol.specs.Streams.{IsFlat, stream_of, OneReading}
 
 heads : {X : Type 0} {x y : X} {xs ys : List X} → x ∷ xs ≡ y ∷ ys → x ≡ y
 heads e = cc
@@ -26,9 +26,9 @@ no_line (a ∷ r) (b ∷ x) p f e = no_line r x p (All-tail (λ n. n ≢ 10) a r
 
 pub one : OneReading
 one [] [] r s f g h k e = (refl, e)
-one [] (y ∷ ys) r s f g h k e = absurd (no_line r y (joined ys s) h e)
-one (x ∷ xs) [] r s f g h k e = absurd (no_line s x (joined xs r) k (sym e))
+one [] (y ∷ ys) r s f g h k e = absurd (no_line r y (stream_of ys s) h e)
+one (x ∷ xs) [] r s f g h k e = absurd (no_line s x (stream_of xs r) k (sym e))
 one (x ∷ xs) (y ∷ ys) r s f g h k e =
-    let q = fronts x y (joined xs r) (joined ys s) f.0 g.0 e in
+    let q = fronts x y (stream_of xs r) (stream_of ys s) f.0 g.0 e in
     let t = one xs ys r s f.1 g.1 h k q.1 in
     (both x y xs ys q.0 t.0, t.1)

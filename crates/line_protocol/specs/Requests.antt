@@ -33,9 +33,9 @@ and_then (Ok x) next = next x
 and_then (Err fault) next = Err fault
 
 -- a name
-abbrev pub named : Result (List ℕ) NameFault → Result (List ℕ) WireFault
-named (Ok name) = Ok name
-named (Err fault) = Err BadName
+abbrev pub name_or_fault : Result (List ℕ) NameFault → Result (List ℕ) WireFault
+name_or_fault (Ok name) = Ok name
+name_or_fault (Err fault) = Err BadName
 
 -- the version of a key
 abbrev pub version_of : Option ℕ → Result Version WireFault
@@ -50,10 +50,10 @@ set_within (Some n) = if nat_lt n (2 ^ 32) then Ok n else Err BadNumber
 -- the client of the words for the user, the host, the display and the project
 abbrev pub client_of : List ℕ → List ℕ → List ℕ → List ℕ → Result Client WireFault
 client_of user host display project =
-    and_then (named (name_of user)) (λ u.
-    and_then (named (name_of host)) (λ h.
-    and_then (named (name_of display)) (λ d.
-    and_then (named (name_of project)) (λ p.
+    and_then (name_or_fault (name_of user)) (λ u.
+    and_then (name_or_fault (name_of host)) (λ h.
+    and_then (name_or_fault (name_of display)) (λ d.
+    and_then (name_or_fault (name_of project)) (λ p.
     Ok (record { user = u; host = h; display = d; project = p })))))
 
 -- no word is left
@@ -91,14 +91,14 @@ seat_of [] = Err WordCount
 seat_of (feature ∷ []) = Err WordCount
 seat_of (feature ∷ version ∷ others) =
     and_then (last_of others) (λ none.
-    and_then (named (name_of feature)) (λ f.
+    and_then (name_or_fault (name_of feature)) (λ f.
     and_then (version_of (key_of version)) (λ v.
     Ok (record { feature = f; version = v }))))
 
 -- a feature, by one word
 abbrev pub feature_of : List (List ℕ) → Result (List ℕ) WireFault
 feature_of [] = Err WordCount
-feature_of (feature ∷ others) = and_then (last_of others) (λ none. named (name_of feature))
+feature_of (feature ∷ others) = and_then (last_of others) (λ none. name_or_fault (name_of feature))
 
 -- the number of a rule set, by one word
 abbrev pub set_of : List (List ℕ) → Result ℕ WireFault

@@ -26,13 +26,13 @@ pub record IsOverlong (bytes : List ℕ) : Type 0 where
   pub long : 1025 ≤ length front
 
 -- lines, each with its LF, and a rest
-abbrev pub joined : List (List ℕ) → List ℕ → List ℕ
-joined [] rest = rest
-joined (line ∷ lines) rest = line ++ 10 ∷ joined lines rest
+abbrev pub stream_of : List (List ℕ) → List ℕ → List ℕ
+stream_of [] rest = rest
+stream_of (line ∷ lines) rest = line ++ 10 ∷ stream_of lines rest
 
 -- two readings of one stream are one
 abbrev pub OneReading : Type 0
-OneReading = (xs ys : List (List ℕ)) (r s : List ℕ) → AllByRecursion IsFlat xs → AllByRecursion IsFlat ys → IsFlat r → IsFlat s → joined xs r ≡ joined ys s → (xs ≡ ys) × (r ≡ s)
+OneReading = (xs ys : List (List ℕ)) (r s : List ℕ) → AllByRecursion IsFlat xs → AllByRecursion IsFlat ys → IsFlat r → IsFlat s → stream_of xs r ≡ stream_of ys s → (xs ≡ ys) × (r ≡ s)
 
 -- what a feeder holds: the bytes since the last LF, or the line that was given last; or that a line was too long
 pub record Held : Type 0 where

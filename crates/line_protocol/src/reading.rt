@@ -5,7 +5,7 @@ ghost use Rattle.lic_text.specs.Left.{words_left};
 ghost use Rattle.lic_text.specs.Number.{number_of};
 ghost use Rattle.lic_types.specs.Name.{name_of};
 ghost use Rattle.lic_types.specs.Version.{key_of};
-ghost use Rattle.line_protocol.specs.Requests.{asked_of, client_of, feature_of, is_request_byte, last_of, named, request_of, seat_of, set_of, set_within, verb_of, version_of, worded};
+ghost use Rattle.line_protocol.specs.Requests.{asked_of, client_of, feature_of, is_request_byte, last_of, name_or_fault, request_of, seat_of, set_of, set_within, verb_of, version_of, worded};
 
 use crate::wire::{Wire, WireFault};
 use lic_text::{Words, number, words_in};
@@ -68,7 +68,7 @@ fn end_words(words: Words<'_>) -> Result<(), WireFault>
 
 /// The name that a word spells.
 fn read_name(word: &[u8]) -> Result<Name, WireFault>
-    ensures { result ≡ named (name_of word.now) }
+    ensures { result ≡ name_or_fault (name_of word.now) }
 {
     Name::read(word).map_err(|_| WireFault::BadName)
 }

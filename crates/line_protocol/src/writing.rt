@@ -15,7 +15,7 @@ use reply_words::{put, put_charge, put_number, reply_words};
 fn put_numbered(room: &mut [u8], at: usize, text: &[u8], n: u32) -> usize
     requires { at + length text.now + 10 ≤ length room.old }
     ensures room { length room.new ≡ length room.old }
-    ensures place { result ≤ at + length text.now + 10 }
+    ensures offset { result ≤ at + length text.now + 10 }
     ensures written { take result room.new ≡ take at room.old ++ text.now ++ decimal n }
 {
     let at = put(room, at, text);
@@ -26,7 +26,7 @@ fn put_numbered(room: &mut [u8], at: usize, text: &[u8], n: u32) -> usize
 /// Writes a reply that brought a seat.
 fn put_seated(room: &mut [u8; 160], word: &[u8], seat: u32, charge: &Charge) -> usize
     requires { length word.now ≤ 10 }
-    ensures place { result ≤ 130 }
+    ensures offset { result ≤ 130 }
     ensures written { take result room.new ≡ seated_text word.now seat charge.now }
 {
     let at = put(room, 0, word);
@@ -37,7 +37,7 @@ fn put_seated(room: &mut [u8; 160], word: &[u8], seat: u32, charge: &Charge) -> 
 
 /// Writes the words of a reply, with the seat that it brought.
 fn put_desk_words(room: &mut [u8; 160], reply: &Reply, seat: Option<u32>) -> usize
-    ensures place { result ≤ 130 }
+    ensures offset { result ≤ 130 }
     ensures written { take result room.new ≡ desk_text reply.now seat }
 {
     let Some(seat) = seat else {
@@ -52,7 +52,7 @@ fn put_desk_words(room: &mut [u8; 160], reply: &Reply, seat: Option<u32>) -> usi
 
 /// Writes a reply and how many entries came before it.
 fn put_desk(room: &mut [u8; 160], reply: &Reply, seat: Option<u32>, place: u64) -> usize
-    ensures place { result ≤ 152 }
+    ensures offset { result ≤ 152 }
     ensures written { take result room.new ≡ desk_text reply.now seat ++ codes " #" ++ decimal place }
 {
     let at = put_desk_words(room, reply, seat);
@@ -62,7 +62,7 @@ fn put_desk(room: &mut [u8; 160], reply: &Reply, seat: Option<u32>, place: u64) 
 
 /// Writes the words of a glance.
 fn put_glance(room: &mut [u8; 160], glance: &Glance) -> usize
-    ensures place { result ≤ 150 }
+    ensures offset { result ≤ 150 }
     ensures written { take result room.new ≡ glance_text glance.now }
 {
     let at = put(room, 0, b"GLANCE FRONT ");
@@ -76,7 +76,7 @@ fn put_glance(room: &mut [u8; 160], glance: &Glance) -> usize
 
 /// Writes the day on which a pool expired.
 fn put_expired(room: &mut [u8; 160], day: &Day) -> usize
-    ensures place { result ≤ 20 }
+    ensures offset { result ≤ 20 }
     ensures written { take result room.new ≡ codes "EXPIRED " ++ day_text day.now }
 {
     let mut text = [0u8; 16];
@@ -87,7 +87,7 @@ fn put_expired(room: &mut [u8; 160], day: &Day) -> usize
 
 /// Writes what a client is told.
 fn put_told(room: &mut [u8; 160], told: &Told) -> usize
-    ensures place { result ≤ 152 }
+    ensures offset { result ≤ 152 }
     ensures written { take result room.new ≡ told_text told.now }
 {
     match told {
@@ -109,7 +109,7 @@ fn put_told(room: &mut [u8; 160], told: &Told) -> usize
 /// Writes the line of what a client is told, with its LF, at the start of the room, and gives how many bytes it takes, 160 at
 /// most. The words are this project's own; the bytes of the room behind them are left open.
 pub fn write_reply(told: &Told, room: &mut [u8; 160]) -> usize
-    ensures place { result ≤ 153 }
+    ensures offset { result ≤ 153 }
     ensures written { take result room.new ≡ line_of told.now }
 {
     let at = put_told(room, told);

@@ -6,7 +6,7 @@ use Rattle.options_machine.specs.Step.{set_asked}
 use Rattle.options_machine.specs.declared.reply.Kind.TheVariants.{Look}
 use Rattle.options_machine.specs.declared.reply.Request.{Request}
 use Rattle.audit_log.specs.declared.reading.Logged.{Logged}
-use Rattle.log_audit.specs.Desks.{IsExpected, IsNext, Says, asked, is_there, moved_by, moved_on}
+use Rattle.log_audit.specs.Desks.{IsExpected, IsNext, Says, request_asked, is_there, moved_by, moved_on}
 use Rattle.log_audit.specs.declared.desk.Desk.{Desk}
 use Rattle.log_audit.specs.declared.desk.Expected.{Expected}
 
@@ -23,7 +23,7 @@ pub no_set : (d : Desk) (x : Logged) (e : Expected) (look : Request) → (AsksFo
     → (IsNext d x → ⊥) × IsExpected d x e
 no_set d x e look none is says =
     let gone : is_there (set_asked x.entry.request.kind) (length d.book.sets) ≡ false = not_there (set_asked x.entry.request.kind) (length d.book.sets) none in
-    let same : asked (length d.book.sets) x.entry.request ≡ look = rw gone (sym is) in
+    let same : request_asked (length d.book.sets) x.entry.request ≡ look = rw gone (sym is) in
     ((λ n. none n.fits), subst (λ (r : Request). Says d r x.entry.moment e) (sym same) says)
 
 -- the entry is next, and the desk stands behind it

@@ -9,7 +9,7 @@ use Rattle.options_machine.proofs.Counts.{and_left, and_right}
 use Rattle.script_words.specs.Firsts.{all_or_first_fault, onto}
 use Rattle.script_words.specs.declared.fault.ScriptFault.{ScriptFault}
 use Rattle.script_words.proofs.Fronts.{front_more, with_front}
-use Rattle.log_audit.specs.Log.{found, is_fit, numbered, read_of, tells}
+use Rattle.log_audit.specs.Log.{some_or_fault, is_fit, numbered, read_of, tells}
 use Rattle.log_audit.specs.declared.log.Numbered.{Numbered}
 
 -- the entries so far, and those of the lines that are left
@@ -23,7 +23,7 @@ split_step pools line lines true h = rw h refl
 split_step pools line lines false h = rw h refl
 
 more_step : (front : List Numbered) (x : Option Numbered) (b : Bool) (r : Result Numbered ScriptFault) (others : Result (List Numbered) ScriptFault)
-    → cond b (found r) (Ok None) ≡ Ok x → with_front front (cond b (onto r others) others) ≡ with_front (front ++ option_to_list x) others
+    → cond b (some_or_fault r) (Ok None) ≡ Ok x → with_front front (cond b (onto r others) others) ≡ with_front (front ++ option_to_list x) others
 more_step front None true (Ok y) others h = absurd cc
 more_step front (Some z) true (Ok y) others h =
     let same : y ≡ z = cc in
@@ -33,7 +33,7 @@ more_step front None false r others h = ap (λ (l : List Numbered). with_front l
 more_step front (Some z) false r others h = absurd cc
 
 fault_step : (front : List Numbered) (fault : ScriptFault) (b : Bool) (r : Result Numbered ScriptFault) (others : Result (List Numbered) ScriptFault)
-    → cond b (found r) (Ok None) ≡ Err fault → with_front front (cond b (onto r others) others) ≡ Err fault
+    → cond b (some_or_fault r) (Ok None) ≡ Err fault → with_front front (cond b (onto r others) others) ≡ Err fault
 fault_step front fault true (Ok y) others h = absurd cc
 fault_step front fault true (Err other) others h = ap Err cc
 fault_step front fault false r others h = absurd cc

@@ -13,10 +13,10 @@ use Rattle.options_machine.proofs.Moments.{now_after}
 use Rattle.options_machine.proofs.Runs.{after-snoc, run_last, run_lawful, run_more}
 use Rattle.audit_log.specs.declared.reading.Logged.{Logged}
 use Rattle.log_audit.specs.Audit.{ArePlaces, Holds, IsFirstBad, IsRunLog, IsRunOf, entry_of, is_of_pool, of_pool}
-use Rattle.log_audit.specs.Desks.{IsExpected, IsNext, IsSmall, asked, days_told, with_next}
+use Rattle.log_audit.specs.Desks.{IsExpected, IsNext, IsSmall, request_asked, days_so_far, with_next}
 use Rattle.log_audit.specs.Kept.{AreSummed, StandAll, StandsAt, sets_at}
 use Rattle.log_audit.specs.Log.{is_fit}
-use Rattle.log_audit.specs.Running.{counted}
+use Rattle.log_audit.specs.Running.{days_with_entry}
 use Rattle.log_audit.specs.Usage.{pool_usage, usage, usage_from}
 use Rattle.log_audit.specs.declared.day_sum.DaySum.{DaySum}
 use Rattle.log_audit.specs.declared.desk.Desk.{Desk}
@@ -88,10 +88,10 @@ days_more sets xs d x k small n =
     let pool = x.logged.pool in
     let e = x.logged.entry in
     let P : List Rules → State → Type 0 = λ rs s. AreSummed sets pool (map entry_of (xs ++ x ∷ []))
-    (counted d.days pool (record { from = s.now; until = e.moment; held = length s.holders }) (length (step rs s e.request e.moment).1.holders) e.reply) in
+    (days_with_entry d.days pool (record { from = s.now; until = e.moment; held = length s.holders }) (length (step rs s e.request e.moment).1.holders) e.reply) in
     let later = subst (λ (s : State). s.now ≤ e.moment) k.reached n.later in
     let there : P sets (after sets (map entry_of xs)) =
-    subst (λ (es : List Entry). AreSummed sets pool es (counted d.days pool (stretch_to sets (map entry_of xs) e) (held_to sets (map entry_of xs) e) e.reply)) (sym (map-append entry_of xs (x ∷ [])))
+    subst (λ (es : List Entry). AreSummed sets pool es (days_with_entry d.days pool (stretch_to sets (map entry_of xs) e) (held_to sets (map entry_of xs) e) e.reply)) (sym (map-append entry_of xs (x ∷ [])))
     (summed_more sets pool (map entry_of xs) d.days e later small (few_held sets pool xs d k) k.summed) in
     subst (λ (rs : List Rules). P rs d.book.state) (sym k.rules) (subst (P sets) (sym k.reached) there)
 
@@ -121,8 +121,8 @@ no_run sets pool xs d x k other r =
 holds_there : (sets : List Rules) (pool : ℕ) (xs : List Numbered) (d : Desk) (x : Numbered) (e : Expected) → StandsAt sets pool xs d → IsExpected d x.logged e → Holds sets xs (entry_of x) e.place e.moment e.reply
 holds_there sets pool xs d x e k s =
     let P : List Rules → State → Type 0 = λ rs st.
-    (e.moment ≡ (step rs st (asked (length rs) x.logged.entry.request) x.logged.entry.moment).1.now)
-    × (e.reply ≡ (step rs st (asked (length rs) x.logged.entry.request) x.logged.entry.moment).0) in
+    (e.moment ≡ (step rs st (request_asked (length rs) x.logged.entry.request) x.logged.entry.moment).1.now)
+    × (e.reply ≡ (step rs st (request_asked (length rs) x.logged.entry.request) x.logged.entry.moment).0) in
     let p : P sets (after sets (map entry_of xs)) = subst (λ (rs : List Rules). P rs (after sets (map entry_of xs))) k.rules (subst (P d.book.sets) k.reached (s.used, s.reply)) in
     record {
       counted = s.place ∙ k.counted;
@@ -187,7 +187,7 @@ first_bad pools xs log rest desks x d e k within cut other says =
 
 -- the desks tell the usage of their pools, of which the first has this number
 told_from : (first : ℕ) (pools : List (List Rules)) (xs : List Numbered) (desks : List Desk) → length desks ≡ length pools
-    → ((i : ℕ) (d : Desk) → i < length desks → StandsAt (get_or pools i []) (first + i) (of_pool (first + i) xs) (get_or desks i d)) → flat_map days_told desks ≡ usage_from first pools xs
+    → ((i : ℕ) (d : Desk) → i < length desks → StandsAt (get_or pools i []) (first + i) (of_pool (first + i) xs) (get_or desks i d)) → flat_map days_so_far desks ≡ usage_from first pools xs
 told_from first [] xs [] many each = refl
 told_from first [] xs (d ∷ desks) many each = absurd (omega arith)
 told_from first (sets ∷ pools) xs [] many each = absurd (omega arith)
@@ -198,10 +198,10 @@ told_from first (sets ∷ pools) xs (d ∷ desks) many each =
     λ i o low. (let next : first + suc i ≡ first + 1 + i = omega arith in
     subst (λ (n : ℕ). StandsAt (get_or pools i []) n (of_pool n xs) (get_or desks i o)) next (each (suc i) o (omega arith))) in
     let others = told_from (first + 1) pools xs desks (omega arith) behind in
-    ap (λ (l : List DaySum). l ++ flat_map days_told desks) (told sets first (map entry_of (of_pool first xs)) d.days here.summed)
+    ap (λ (l : List DaySum). l ++ flat_map days_so_far desks) (told sets first (map entry_of (of_pool first xs)) d.days here.summed)
     ∙ ap (λ (l : List DaySum). pool_usage sets first (map entry_of (of_pool first xs)) ++ l) others
 
-pub told_all : (pools : List (List Rules)) (xs : List Numbered) (desks : List Desk) → StandAll pools xs desks → flat_map days_told desks ≡ usage pools xs
+pub told_all : (pools : List (List Rules)) (xs : List Numbered) (desks : List Desk) → StandAll pools xs desks → flat_map days_so_far desks ≡ usage pools xs
 told_all pools xs desks k =
     told_from 0 pools xs desks k.many (λ i d low. let same : i ≡ 0 + i = omega arith in subst (λ (n : ℕ). StandsAt (get_or pools i []) n (of_pool n xs) (get_or desks i d)) same (k.each i d low))
 

@@ -18,7 +18,7 @@ use Rattle.options_machine.proofs.Runs.{after-snoc}
 use Rattle.log_audit.specs.Desks.{IsSmallSum}
 use Rattle.log_audit.specs.Kept.{AreSummed, AreSummedAt, IsDay, IsIdle, has_entry}
 use Rattle.log_audit.specs.Replies.{is_denied, is_grant, is_noseat}
-use Rattle.log_audit.specs.Running.{HasRoom, Running, counted, no_entries, over_at, sum_at, with_entry, with_stretch}
+use Rattle.log_audit.specs.Running.{HasRoom, Running, days_with_entry, no_entries, over_at, sum_at, with_entry, with_stretch}
 use Rattle.log_audit.specs.Times.{day_of, seat_seconds}
 use Rattle.log_audit.specs.Usage.{HeldAfter, begins_on, day_sum, days_of, held_from, is_on, pool_usage, stretches_from, sum_of}
 use Rattle.log_audit.specs.declared.day_sum.DaySum.{DaySum}
@@ -286,7 +286,7 @@ more_at sets pool es over (Some sum) e later small few k = by_day sets pool es o
 -- the days stay summed with each entry
 pub summed_more : (sets : List Rules) (pool : ℕ) (es : List Entry) (r : Running) (e : Entry)
     → (after sets es).now ≤ e.moment → e.moment < 2 ^ 40 → length (after sets es).holders ≤ 65535 → AreSummed sets pool es r
-    → AreSummed sets pool (es ++ e ∷ []) (counted r pool (stretch_to sets es e) (held_to sets es e) e.reply)
+    → AreSummed sets pool (es ++ e ∷ []) (days_with_entry r pool (stretch_to sets es e) (held_to sets es e) e.reply)
 summed_more sets pool es r e later small few k = more_at sets pool es r.over r.last e later small few k
 
 told_at : (sets : List Rules) (pool : ℕ) (es : List Entry) (over : List DaySum) (last : Option DaySum) → AreSummedAt sets pool es over last → over ++ option_to_list last ≡ pool_usage sets pool es

@@ -4,7 +4,7 @@ use Rattle.options_machine.specs.Run.{IsRun, after}
 use Rattle.options_machine.specs.Step.{step}
 use Rattle.options_machine.specs.declared.reply.Entry.{Entry}
 use Rattle.options_machine.specs.declared.reply.Reply.{Reply}
-use Rattle.log_audit.specs.Desks.{asked}
+use Rattle.log_audit.specs.Desks.{request_asked}
 use Rattle.log_audit.specs.declared.log.Numbered.{Numbered}
 
 -- whether an entry is one of this pool
@@ -35,8 +35,8 @@ IsRunLog pools xs = (pool : ℕ) → pool < length pools → IsRunOf (get_or poo
 -- what holds in the place of an entry behind those: how many there are, the moment that the machine uses, and its reply
 pub record Holds (sets : List Rules) (xs : List Numbered) (e : Entry) (place moment : ℕ) (said : Reply) : Type 0 where
   pub counted : place ≡ length xs
-  pub used : moment ≡ (step sets (after sets (map entry_of xs)) (asked (length sets) e.request) e.moment).1.now
-  pub reply : said ≡ (step sets (after sets (map entry_of xs)) (asked (length sets) e.request) e.moment).0
+  pub used : moment ≡ (step sets (after sets (map entry_of xs)) (request_asked (length sets) e.request) e.moment).1.now
+  pub reply : said ≡ (step sets (after sets (map entry_of xs)) (request_asked (length sets) e.request) e.moment).0
 
 -- the log is no run, and this line is the first that shows it, where this holds
 pub record IsFirstBad (pools : List (List Rules)) (xs : List Numbered) (line place moment : ℕ) (said : Reply) : Type 0 where

@@ -7,7 +7,7 @@ use Rattle.options_machine.specs.declared.reply.Kind.TheVariants.{Look}
 use Rattle.options_machine.specs.declared.reply.Reply.{Reply}
 use Rattle.options_machine.specs.declared.reply.Request.{Request}
 use Rattle.audit_log.specs.declared.reading.Logged.{Logged}
-use Rattle.log_audit.specs.Running.{counted}
+use Rattle.log_audit.specs.Running.{days_with_entry}
 use Rattle.log_audit.specs.declared.day_sum.DaySum.{DaySum}
 use Rattle.log_audit.specs.declared.day_sum.Stretch.{Stretch}
 use Rattle.log_audit.specs.declared.desk.Desk.{Desk}
@@ -19,8 +19,8 @@ is_there None sets = true
 is_there (Some set) sets = nat_lt set sets
 
 -- what is asked in the place of a request: a look, where there is no rule set of the number that it asks for
-abbrev pub asked : ℕ → Request → Request
-asked sets request = if is_there (set_asked request.kind) sets then request else record request { kind = Look }
+abbrev pub request_asked : ℕ → Request → Request
+request_asked sets request = if is_there (set_asked request.kind) sets then request else record request { kind = Look }
 
 -- what a desk answers to a request, and the state then
 abbrev pub answer : Desk → Request → ℕ → Reply × State
@@ -41,7 +41,7 @@ pub record IsNext (d : Desk) (x : Logged) : Type 0 where
 
 -- what holds in the place of an entry
 abbrev pub IsExpected : Desk → Logged → Expected → Type 0
-IsExpected d x e = Says d (asked (length d.book.sets) x.entry.request) x.entry.moment e
+IsExpected d x e = Says d (request_asked (length d.book.sets) x.entry.request) x.entry.moment e
 
 -- the desk after its book answered a request
 abbrev pub moved_by : Desk → Request → ℕ → Desk
@@ -57,11 +57,11 @@ stretch_at d x = record { from = d.book.state.now; until = x.entry.moment; held 
 
 -- the desk after its next entry
 abbrev pub with_next : Desk → Logged → Desk
-with_next d x = record (moved_on d x) { days = counted d.days x.pool (stretch_at d x) (length (answer d x.entry.request x.entry.moment).1.holders) x.entry.reply }
+with_next d x = record (moved_on d x) { days = days_with_entry d.days x.pool (stretch_at d x) (length (answer d x.entry.request x.entry.moment).1.holders) x.entry.reply }
 
 -- the days of the entries so far
-abbrev pub days_told : Desk → List DaySum
-days_told d = d.days.over ++ option_to_list d.days.last
+abbrev pub days_so_far : Desk → List DaySum
+days_so_far d = d.days.over ++ option_to_list d.days.last
 
 -- the sums of a day are no more than so many entries up to this moment can make them
 pub record IsSmallSum (entries now : ℕ) (sum : DaySum) : Type 0 where

@@ -32,13 +32,13 @@ numbered pools (Err fault) = Err (at_its_line fault)
 abbrev pub log_of : ℕ → List ℕ → Result (List Numbered) ScriptFault
 log_of pools file = all_or_first_fault (map (numbered pools) (filter tells (lines_of file)))
 
-abbrev pub found : Result Numbered ScriptFault → Result (Option Numbered) ScriptFault
-found (Ok x) = Ok (Some x)
-found (Err fault) = Err fault
+abbrev pub some_or_fault : Result Numbered ScriptFault → Result (Option Numbered) ScriptFault
+some_or_fault (Ok x) = Ok (Some x)
+some_or_fault (Err fault) = Err fault
 
 -- the entry of a line, where it has one
 abbrev pub read_of : ℕ → Result Worded TextFault → Result (Option Numbered) ScriptFault
-read_of pools line = if tells line then found (numbered pools line) else Ok None
+read_of pools line = if tells line then some_or_fault (numbered pools line) else Ok None
 
 -- the fault of a log that a fault tells; want of memory tells none
 abbrev pub fault_told : AuditFault → Option ScriptFault

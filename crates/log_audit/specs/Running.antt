@@ -44,5 +44,5 @@ over_at over None x = over
 over_at over (Some sum) x = if sum.day == day_of x.until then over else over ++ with_stretch sum x ∷ []
 
 -- the days with the pool's next entry, which ends this stretch, and after which so many seats are held
-abbrev pub counted : Running → ℕ → Stretch → ℕ → Reply → Running
-counted r pool x held said = record { over = over_at r.over r.last x; last = Some (with_entry (sum_at r.last pool x) held said) }
+abbrev pub days_with_entry : Running → ℕ → Stretch → ℕ → Reply → Running
+days_with_entry r pool x held said = record { over = over_at r.over r.last x; last = Some (with_entry (sum_at r.last pool x) held said) }

@@ -1,6 +1,6 @@
 //! The days of a pool, summed while its entries come.
 ghost use Rattle.std.specs.Prelude.{◌≡◌, ◌++◌, ◌+◌, ◌<◌, ◌≤◌, ◌^◌, [], None, IfOk, IfSome, OnOk, option_to_list};
-ghost use Rattle.log_audit.specs.Running.{HasRoom, counted, over_at, sum_at};
+ghost use Rattle.log_audit.specs.Running.{HasRoom, days_with_entry, over_at, sum_at};
 ghost use Rattle.log_audit.specs.Times.{seat_seconds};
 
 use crate::day_sum::{DaySum, Stretch, day_of};
@@ -69,7 +69,7 @@ impl Days {
         requires order { stretch.now.from ≤ stretch.now.until }
         requires room { IfSome self.old.last HasRoom }
         requires seconds { IfSome self.old.last (λ sum. sum.seconds + seat_seconds stretch.now < 2 ^ 64) }
-        ensures { OnOk result (self.new ≡ counted self.old pool stretch.now held reply.now) }
+        ensures { OnOk result (self.new ≡ days_with_entry self.old pool stretch.now held reply.now) }
     {
         let sum = self.come_to(pool, stretch)?;
         self.last = Some(sum.with_entry(held, reply));

@@ -2,7 +2,7 @@
 ghost use Rattle.std.specs.Prelude.{◌≡◌, [], IfOk, MatchOption, flat_map, length, map, true};
 ghost use Rattle.std.specs.List.{list_all};
 ghost use Rattle.log_audit.specs.Audit.{IsFirstBad, IsRunLog};
-ghost use Rattle.log_audit.specs.Desks.{days_told};
+ghost use Rattle.log_audit.specs.Desks.{days_so_far};
 ghost use Rattle.log_audit.specs.Kept.{StandAll, sets_at};
 ghost use Rattle.log_audit.specs.Log.{is_fit};
 ghost use Rattle.log_audit.specs.Usage.{usage};
@@ -26,7 +26,7 @@ pub(crate) fn judge_all(desks: &mut [Desk], log: &[Numbered]) -> Result<Option<N
     requires opening { StandAll (map sets_at desks.old) [] desks.old }
     requires fit { list_all (is_fit (length desks.old)) log.now ≡ true }
     ensures { IfOk result (λ found. MatchOption found
-        (IsRunLog (map sets_at desks.old) log.now × (flat_map days_told desks.new ≡ usage (map sets_at desks.old) log.now))
+        (IsRunLog (map sets_at desks.old) log.now × (flat_map days_so_far desks.new ≡ usage (map sets_at desks.old) log.now))
         (λ no. IsFirstBad (map sets_at desks.old) log.now no.line no.expected.place no.expected.moment no.expected.reply)) }
 {
     for entry in log {

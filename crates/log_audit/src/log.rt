@@ -2,7 +2,7 @@
 ghost use Rattle.std.specs.Prelude.{◌≡◌, ◌++◌, ◌<◌, ◌^◌, IfErr, IfOk, IfSome, OnOk, Ok, length, true};
 ghost use Rattle.std.specs.List.{list_all};
 ghost use Rattle.std.specs.Option.{option_to_list};
-ghost use Rattle.lic_text.specs.LinesLeft.{shown};
+ghost use Rattle.lic_text.specs.LinesLeft.{item_view};
 ghost use Rattle.lic_text.specs.Reads.{Reads};
 ghost use Rattle.log_audit.specs.Log.{fault_told, is_fit, log_of, read_of};
 ghost use Rattle.log_audit.specs.declared.fault.AuditFault.TheVariants.{NoMemory as Want};
@@ -27,7 +27,7 @@ fn read_line(
     pools: usize,
     line: Result<Line<'_>, TextFault>,
 ) -> Result<Option<Numbered>, ScriptFault>
-    ensures line { result ≡ read_of pools (shown line.entry) }
+    ensures line { result ≡ read_of pools (item_view line.entry) }
     ensures fit { IfOk result (λ found. IfSome found (λ x. is_fit pools x ≡ true)) }
 {
     let line = line?;

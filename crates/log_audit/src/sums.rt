@@ -1,6 +1,6 @@
 //! The sums of a log.
 ghost use Rattle.std.specs.Prelude.{◌≡◌, IfErr, IfOk, List, flat_map, length};
-ghost use Rattle.log_audit.specs.Desks.{days_told};
+ghost use Rattle.log_audit.specs.Desks.{days_so_far};
 ghost use Rattle.log_audit.specs.Summed.{AreUsers};
 ghost use Rattle.log_audit.specs.declared.fault.AuditFault.TheVariants.{NoMemory as Want};
 
@@ -55,7 +55,7 @@ impl Sums {
 
 /// The days of the entries that desks made, pool by pool.
 fn days_of(alloc: Global, desks: &[Desk]) -> Result<Vec<DaySum>, NoMemory>
-    ensures { IfOk result (λ days. days.items ≡ flat_map days_told desks.now) }
+    ensures { IfOk result (λ days. days.items ≡ flat_map days_so_far desks.now) }
 {
     let mut days = Vec::new(alloc);
     for desk in desks {
@@ -68,7 +68,7 @@ fn days_of(alloc: Global, desks: &[Desk]) -> Result<Vec<DaySum>, NoMemory>
 pub(crate) fn sum_up(alloc: Global, desks: &[Desk], log: &[Numbered]) -> Result<Sums, AuditFault>
     ensures entries { IfOk result (λ sums. sums.entries ≡ length log.now) }
     ensures users { IfOk result (λ sums. AreUsers log.now sums.users) }
-    ensures days { IfOk result (λ sums. sums.days ≡ flat_map days_told desks.now) }
+    ensures days { IfOk result (λ sums. sums.days ≡ flat_map days_so_far desks.now) }
     ensures err { IfErr result (λ fault. fault ≡ Want) }
 {
     let users = users_of(alloc, log)?;

@@ -14,7 +14,7 @@ use Rattle.options_machine.specs.declared.rows.Queuer.{Queuer}
 use Rattle.options_machine.specs.Rules.{Rules}
 use Rattle.options_machine.specs.State.{State, entries, is_holder, is_queuer}
 use Rattle.options_machine.specs.Decide.{decide, is_left_by}
-use Rattle.options_machine.specs.Settle.{in_time, moved, serve, settle, timely, with_offer, with_queuer, with_seat, without_first}
+use Rattle.options_machine.specs.Settle.{in_time, later_moment, serve, settle, timely, with_offer, with_queuer, with_seat, without_first}
 use Rattle.options_machine.specs.Apply.{Fits, apply, told_if, with_told, without_holder, without_queuer}
 use Rattle.options_machine.specs.Step.{holders_anew, next_charge, with_charges_anew}
 use Rattle.options_machine.specs.Kept.{IsBounded, entries_by}
@@ -146,7 +146,7 @@ timed_by test None now hs = omega arith
 timed_by test (Some t) now hs = count-filter_le (λ (h : Holder). test h.party) (λ (h : Holder). ltb (now - h.beat) t) hs
 
 pub by_settle : (test : ℕ → Bool) (r : Rules) (s : State) (moment : ℕ) → entries_by test (settle r s moment) ≤ entries_by test s
-by_settle test r s moment = omega (arith, by_serve test r (record (timely r s moment) { queue = [] }) s.queue, timed_by test r.timeout (moved s.now moment) s.holders)
+by_settle test r s moment = omega (arith, by_serve test r (record (timely r s moment) { queue = [] }) s.queue, timed_by test r.timeout (later_moment s.now moment) s.holders)
 
 told_by : (test : ℕ → Bool) (b : Bool) (now : ℕ) (h : Holder) → test (told_if b now h).party ≡ test h.party
 told_by test true now h = refl
@@ -199,7 +199,7 @@ serve_lingering r s [] = omega arith
 serve_lingering r s (q ∷ qs) = omega (arith, serve_lingering r (with_offer s q (decide r s q.client)) qs, offered_lingering s q (decide r s q.client))
 
 pub settle_lingering : (r : Rules) (s : State) (moment : ℕ) → length (settle r s moment).lingering ≤ length s.lingering
-settle_lingering r s moment = omega (arith, serve_lingering r (record (timely r s moment) { queue = [] }) s.queue, length-filter_le (λ (l : Lingerer). ltb (moved s.now moment) l.until) s.lingering)
+settle_lingering r s moment = omega (arith, serve_lingering r (record (timely r s moment) { queue = [] }) s.queue, length-filter_le (λ (l : Lingerer). ltb (later_moment s.now moment) l.until) s.lingering)
 
 lingering_apply : (r : Rules) (s : State) (party : ℕ) (client : Client) (x : Effect) → Fits r s party client x → length s.lingering ≤ LINGER_LIMIT → length (apply s party client x).lingering ≤ LINGER_LIMIT
 lingering_apply r s party client (Linger l) (h, e, who, same, room) k = omega (arith, room, length-append s.lingering (l ∷ []))

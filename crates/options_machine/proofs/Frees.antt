@@ -18,7 +18,7 @@ use Rattle.options_machine.specs.declared.rows.Queuer.{Queuer}
 use Rattle.options_machine.specs.Rules.{Rules}
 use Rattle.options_machine.specs.State.{State, charges, in_force, opening, same_charge, set_at}
 use Rattle.options_machine.specs.Decide.{decide, reserved}
-use Rattle.options_machine.specs.Settle.{moved, serve, settle, timely, with_offer, with_seat, with_seat_again}
+use Rattle.options_machine.specs.Settle.{later_moment, serve, settle, timely, with_offer, with_seat, with_seat_again}
 use Rattle.options_machine.specs.Apply.{Fits, apply}
 use Rattle.options_machine.specs.Step.{set_of, step_of_task, task}
 use Rattle.options_machine.specs.Run.{IsRun, after, after_entry, after_from}
@@ -58,7 +58,7 @@ free_serve r s (q ∷ qs) k = free_serve r (with_offer s q (decide r s q.client)
 
 free_settle : (r : Rules) (s : State) (moment : ℕ) → IsFree r s → IsFree r (settle r s moment)
 free_settle r s moment k =
-    let now : ℕ = moved s.now moment in
+    let now : ℕ = later_moment s.now moment in
     free_serve r (record (timely r s moment) { queue = [] }) s.queue
     (omega (arith, k, timed_count (λ (h : Holder). same_charge h.charge Open) r.timeout now s.holders, count-filter_le (λ (l : Lingerer). same_charge l.charge Open) (λ (l : Lingerer). ltb now l.until) s.lingering))
 

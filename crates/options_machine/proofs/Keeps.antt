@@ -17,7 +17,7 @@ use Rattle.options_machine.specs.declared.rows.Queuer.{Queuer}
 use Rattle.options_machine.specs.Rules.{IsSound, Rules, applies, cut_of}
 use Rattle.options_machine.specs.State.{State, charges, entries, in_use, is_holder, is_queuer, same_charge}
 use Rattle.options_machine.specs.Decide.{decide, excluded, has_room, is_left_by, not_included, number_of_limit, reached, reserved, retaken, unless}
-use Rattle.options_machine.specs.Settle.{in_time, moved, serve, settle, timely, with_offer, with_queuer, with_seat, with_seat_again, without_first}
+use Rattle.options_machine.specs.Settle.{in_time, later_moment, serve, settle, timely, with_offer, with_queuer, with_seat, with_seat_again, without_first}
 use Rattle.options_machine.specs.Kept.{IsKept}
 use Rattle.options_machine.proofs.Places.{length-with_holder}
 use Rattle.options_machine.proofs.Counts.{count-cons, count-append, count-push, count-with_holder, count-filter_le, length-filter_le, find_passes, count-without_first, length-without_first, none_left, and_right, all_found}
@@ -278,7 +278,7 @@ timed_length (Some t) now hs = length-filter_le (λ (h : Holder). ltb (now - h.b
 
 pub keeps_timely : (r : Rules) (s : State) (moment : ℕ) → IsKept r s → Keeps r (record (timely r s moment) { queue = [] }) s.queue
 keeps_timely r s moment k =
-    let now : ℕ = moved s.now moment in
+    let now : ℕ = later_moment s.now moment in
     let lasting : Lingerer → Bool = λ (l : Lingerer). ltb now l.until in
     record {
       within = omega (arith, k.within, timed_length r.timeout now s.holders, length-filter_le lasting s.lingering);

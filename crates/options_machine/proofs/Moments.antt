@@ -6,7 +6,7 @@ use Rattle.options_machine.specs.declared.reply.Task.{Task}
 use Rattle.options_machine.specs.declared.reply.Task.TheVariants.{Answer, Reread}
 use Rattle.options_machine.specs.declared.rows.Lingerer.{Lingerer}
 use Rattle.options_machine.specs.Rules.{Rules}
-use Rattle.options_machine.specs.Settle.{in_time, moved, serve, settle}
+use Rattle.options_machine.specs.Settle.{in_time, later_moment, serve, settle}
 use Rattle.options_machine.specs.State.{State, in_force, opening}
 use Rattle.options_machine.specs.Step.{step, step_of_task, task}
 use Rattle.options_machine.specs.Run.{RunsFrom, after_entry, after_from}
@@ -14,19 +14,19 @@ use Rattle.options_machine.specs.Law.{MomentsAreBounded, StepsUseTheirMoment}
 use Rattle.options_machine.proofs.Steps.{apply_now, effect_at, settle_now}
 
 -- a moment stays below 2^40
-pub moved_within : (now moment : ℕ) → now < 2 ^ 40 → moved now moment < 2 ^ 40
+pub moved_within : (now moment : ℕ) → now < 2 ^ 40 → later_moment now moment < 2 ^ 40
 moved_within now moment h = omega (arith, h)
 
 -- a moment never goes back
-pub moved_later : (now moment : ℕ) → now ≤ moved now moment
+pub moved_later : (now moment : ℕ) → now ≤ later_moment now moment
 moved_later now moment = omega arith
 
 -- the moment that was used moves no further
-pub moved_again : (now moment : ℕ) → now < 2 ^ 40 → moved now (moved now moment) ≡ moved now moment
+pub moved_again : (now moment : ℕ) → now < 2 ^ 40 → later_moment now (later_moment now moment) ≡ later_moment now moment
 moved_again now moment h = omega (arith, h)
 
 -- a step is the same at the moment that it uses
-pub step_again : (sets : List Rules) (s : State) (request : Request) (moment : ℕ) → s.now < 2 ^ 40 → step sets s request (moved s.now moment) ≡ step sets s request moment
+pub step_again : (sets : List Rules) (s : State) (request : Request) (moment : ℕ) → s.now < 2 ^ 40 → step sets s request (later_moment s.now moment) ≡ step sets s request moment
 step_again sets s request moment h =
     ap (λ (now : ℕ). step_of_task sets (serve (in_force sets s) (record s { holders = in_time (in_force sets s).timeout now s.holders; lingering = filter (λ (l : Lingerer). ltb now l.until) s.lingering; now = now; queue = [] }) s.queue) request.party request.client (task request.kind))
     (moved_again s.now moment h)
@@ -36,7 +36,7 @@ done_now sets s party client (Answer asked) = apply_now s party client (effect_a
 done_now sets s party client (Reread n) = refl
 
 -- the moment of the state that a step leaves
-pub step_now : (sets : List Rules) (s : State) (request : Request) (moment : ℕ) → (step sets s request moment).1.now ≡ moved s.now moment
+pub step_now : (sets : List Rules) (s : State) (request : Request) (moment : ℕ) → (step sets s request moment).1.now ≡ later_moment s.now moment
 step_now sets s request moment = done_now sets (settle (in_force sets s) s moment) request.party request.client (task request.kind) ∙ settle_now (in_force sets s) s moment
 
 pub steps_use : StepsUseTheirMoment

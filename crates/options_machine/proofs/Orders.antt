@@ -16,7 +16,7 @@ use Rattle.options_machine.specs.declared.rows.Queuer.{Queuer}
 use Rattle.options_machine.specs.Rules.{IsSound, Rules}
 use Rattle.options_machine.specs.State.{State, in_force, is_holder, is_queuer, opening, set_at}
 use Rattle.options_machine.specs.Decide.{decide}
-use Rattle.options_machine.specs.Settle.{in_time, moved, serve, settle, timely, with_holder, with_offer, with_seat}
+use Rattle.options_machine.specs.Settle.{in_time, later_moment, serve, settle, timely, with_holder, with_offer, with_seat}
 use Rattle.options_machine.specs.Apply.{Fits, IsPlace, apply, told_if, with_told, without_holder}
 use Rattle.options_machine.specs.Step.{holders_anew, next_charge, step_of_task, task}
 use Rattle.options_machine.specs.Run.{IsRun, RunsFrom, after, after_entry, after_from}
@@ -98,7 +98,7 @@ order_serve r s (q ∷ qs) g k e =
 
 order_settle : (r : Rules) (s : State) (moment : ℕ) → IsSound r → IsKept r s → are_in_order s.holders ≡ true → are_in_order (settle r s moment).holders ≡ true
 order_settle r s moment g k e =
-    order_serve r (record (timely r s moment) { queue = [] }) s.queue g (keeps_timely r s moment k) (order_timed r.timeout (moved s.now moment) s.holders e)
+    order_serve r (record (timely r s moment) { queue = [] }) s.queue g (keeps_timely r s moment k) (order_timed r.timeout (later_moment s.now moment) s.holders e)
 
 -- a change that leaves the parties
 

@@ -16,7 +16,7 @@ use Rattle.options_machine.specs.declared.rows.Queuer.{Queuer}
 use Rattle.options_machine.specs.Rules.{Rules}
 use Rattle.options_machine.specs.State.{State, entries, is_holder, is_queuer}
 use Rattle.options_machine.specs.Decide.{decide, is_left_by}
-use Rattle.options_machine.specs.Settle.{in_time, moved, serve, settle, timely, with_holder, with_offer, with_queuer, with_seat, without_first}
+use Rattle.options_machine.specs.Settle.{in_time, later_moment, serve, settle, timely, with_holder, with_offer, with_queuer, with_seat, without_first}
 use Rattle.options_machine.specs.Apply.{IsPlace, apply, told_if, with_told, without_holder, without_queuer}
 use Rattle.options_machine.specs.Step.{holders_anew, next_charge, with_charges_anew}
 use Rattle.options_machine.specs.Own.{Agrees, fits_holder, is_of_holding, is_of_queueing, says_queueing}
@@ -66,7 +66,7 @@ agrees_serve o party r s (q ∷ qs) all a =
 pub agrees_settle : (o : Option Reply) (party : ℕ) (r : Rules) (s : State) (moment : ℕ) → Agrees o s party → Agrees o (settle r s moment) party
 agrees_settle o party r s moment a =
     agrees_serve o party r (record (timely r s moment) { queue = [] }) s.queue a.queue
-    (record { holders = all_timed (λ (h : Holder). not (is_holder party h) || fits_holder o h) r.timeout (moved s.now moment) s.holders a.holders; queue = refl })
+    (record { holders = all_timed (λ (h : Holder). not (is_holder party h) || fits_holder o h) r.timeout (later_moment s.now moment) s.holders a.holders; queue = refl })
 
 -- rereading
 

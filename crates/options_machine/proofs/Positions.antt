@@ -26,7 +26,7 @@ use Rattle.options_machine.specs.Apply.{IsPlace, apply}
 use Rattle.options_machine.specs.Step.{answer_by_decision, answer_of, answer_of_return, entry_left, lingers, position_of, standing_of, step, step_of_task, task, to_away, to_told, to_untold, to_waiting}
 use Rattle.options_machine.specs.Run.{IsRun, after}
 use Rattle.options_machine.specs.Law.{AreSets}
-use Rattle.options_machine.specs.Replies.{asks_such, found, is_about_itself, is_of_itself, is_waiting, one_more, position_in_queue, reply_to}
+use Rattle.options_machine.specs.Replies.{asks_such, state_found, is_about_itself, is_of_itself, is_waiting, one_more, position_in_queue, reply_to}
 use Rattle.options_machine.proofs.Owns.{found_one}
 use Rattle.options_machine.proofs.Runs.{kept_run, opening_kept}
 use Rattle.options_machine.proofs.Sayings.{none_of_count, place_after, place_applied, place_joined}
@@ -163,5 +163,5 @@ pub positions_told : (sets : List Rules) (count : ℕ) (h : List Entry) (request
     → (reply_to sets (after sets h) request moment ≡ reply.Queued n)
     ↔ ((is_about_itself request.kind ≡ true) × (position_in_queue (step sets (after sets h) request moment).1 request.party ≡ Some n))
 positions_told sets count h request moment n g run =
-    let kept : IsKeptBy sets (found sets (after sets h) moment) = kept_settled sets count (after sets h) moment g (kept_run sets count opening h g run (opening_kept sets count g)) in
-    done_tells sets count (found sets (after sets h) moment) request.party request.client (task request.kind) n g kept
+    let kept : IsKeptBy sets (state_found sets (after sets h) moment) = kept_settled sets count (after sets h) moment g (kept_run sets count opening h g run (opening_kept sets count g)) in
+    done_tells sets count (state_found sets (after sets h) moment) request.party request.client (task request.kind) n g kept

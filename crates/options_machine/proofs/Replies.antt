@@ -25,7 +25,7 @@ use Rattle.options_machine.specs.State.{State, charges, in_force, in_use, place}
 use Rattle.options_machine.specs.Decide.{decide, excluded, has_room, is_reached, not_included, number_of_limit, reached, reserved, retaken, unless}
 use Rattle.options_machine.specs.Step.{answer_by_decision, answer_of, answer_of_return, entry_left, lingers, set_asked, set_of, standing_of, step_of_task, task, to_away, to_told, to_untold, to_waiting}
 use Rattle.options_machine.specs.Own.{is_of_holding, is_of_queueing}
-use Rattle.options_machine.specs.Replies.{IsBarredInQueue, IsDenied, IsFull, IsGranted, IsLeft, IsRetaken, IsToldLate, asks_such, found, gives_back, goes_at_once, is_about_own_seat, is_for_seat, is_for_standing, is_giving_back, is_of_own_seat, is_pending, is_told, is_waiting, asks_for_seat, line_of_denial, reply_to, rules_found}
+use Rattle.options_machine.specs.Replies.{IsBarredInQueue, IsDenied, IsFull, IsGranted, IsLeft, IsRetaken, IsToldLate, asks_such, state_found, gives_back, goes_at_once, is_about_own_seat, is_for_seat, is_for_standing, is_giving_back, is_of_own_seat, is_pending, is_told, is_waiting, asks_for_seat, line_of_denial, reply_to, rules_found}
 use Rattle.options_machine.proofs.Counts.{some_found}
 use Rattle.options_machine.proofs.Keeps.{unless_else}
 use Rattle.options_machine.proofs.Served.{reserved_some}
@@ -101,10 +101,10 @@ when_done : (sets : List Rules) (s : State) (party : ℕ) (client : Client) (t :
 when_done sets s party client (Answer asked) = when_answer (in_force sets s) s party client asked (place s party)
 when_done sets s party client (Reread n) = refl
 
-pub when_reply : (sets : List Rules) (s : State) (request : Request) (moment : ℕ) (x : Reply) → reply_to sets s request moment ≡ x → When (rules_found sets s moment) (found sets s moment) request.client (task request.kind) (place (found sets s moment) request.party) x
+pub when_reply : (sets : List Rules) (s : State) (request : Request) (moment : ℕ) (x : Reply) → reply_to sets s request moment ≡ x → When (rules_found sets s moment) (state_found sets s moment) request.client (task request.kind) (place (state_found sets s moment) request.party) x
 when_reply sets s request moment x e =
-    subst (When (rules_found sets s moment) (found sets s moment) request.client (task request.kind) (place (found sets s moment) request.party)) e
-    (when_done sets (found sets s moment) request.party request.client (task request.kind))
+    subst (When (rules_found sets s moment) (state_found sets s moment) request.client (task request.kind) (place (state_found sets s moment) request.party)) e
+    (when_done sets (state_found sets s moment) request.party request.client (task request.kind))
 
 -- and where it says so, that reply comes
 
@@ -117,8 +117,8 @@ done_replied : (sets : List Rules) (s : State) (party : ℕ) (client : Client) (
 done_replied sets s party client (Answer asked) = refl
 done_replied sets s party client (Reread n) = refl
 
-step_replied : (sets : List Rules) (s : State) (request : Request) (moment : ℕ) (x : Reply) → replied (rules_found sets s moment) (found sets s moment) request.party request.client (place (found sets s moment) request.party) (task request.kind) ≡ x → reply_to sets s request moment ≡ x
-step_replied sets s request moment x e = done_replied sets (found sets s moment) request.party request.client (task request.kind) ∙ e
+step_replied : (sets : List Rules) (s : State) (request : Request) (moment : ℕ) (x : Reply) → replied (rules_found sets s moment) (state_found sets s moment) request.party request.client (place (state_found sets s moment) request.party) (task request.kind) ≡ x → reply_to sets s request moment ≡ x
+step_replied sets s request moment x e = done_replied sets (state_found sets s moment) request.party request.client (task request.kind) ∙ e
 
 seat_told : (r : Rules) (s : State) (party : ℕ) (client : Client) (at : Place) (t : Task) → asks_such is_for_seat t ≡ true → is_told at ≡ true → replied r s party client at t ≡ reply.AlreadyHeld
 seat_told r s party client (Told h) (Answer (ask.Seat may_wait)) a e = refl
@@ -176,32 +176,32 @@ at_place r s party client t at x e f = ap (λ (p : Place). replied r s party cli
 
 -- the laws
 
-pub seats_held_once : (sets : List Rules) (s : State) (request : Request) (moment : ℕ) → (reply_to sets s request moment ≡ reply.AlreadyHeld) ↔ ((asks_for_seat request.kind ≡ true) × (is_told (place (found sets s moment) request.party) ≡ true))
+pub seats_held_once : (sets : List Rules) (s : State) (request : Request) (moment : ℕ) → (reply_to sets s request moment ≡ reply.AlreadyHeld) ↔ ((asks_for_seat request.kind ≡ true) × (is_told (place (state_found sets s moment) request.party) ≡ true))
 seats_held_once sets s request moment =
-    (λ e. when_reply sets s request moment reply.AlreadyHeld e, λ c. step_replied sets s request moment reply.AlreadyHeld (seat_told (rules_found sets s moment) (found sets s moment) request.party request.client (place (found sets s moment) request.party) (task request.kind) c.0 c.1))
+    (λ e. when_reply sets s request moment reply.AlreadyHeld e, λ c. step_replied sets s request moment reply.AlreadyHeld (seat_told (rules_found sets s moment) (state_found sets s moment) request.party request.client (place (state_found sets s moment) request.party) (task request.kind) c.0 c.1))
 
-pub places_given_back : (sets : List Rules) (s : State) (request : Request) (moment : ℕ) → (reply_to sets s request moment ≡ reply.Unqueued) ↔ ((gives_back request.kind ≡ true) × (is_waiting (place (found sets s moment) request.party) ≡ true))
+pub places_given_back : (sets : List Rules) (s : State) (request : Request) (moment : ℕ) → (reply_to sets s request moment ≡ reply.Unqueued) ↔ ((gives_back request.kind ≡ true) × (is_waiting (place (state_found sets s moment) request.party) ≡ true))
 places_given_back sets s request moment =
-    (λ e. when_reply sets s request moment reply.Unqueued e, λ c. step_replied sets s request moment reply.Unqueued (giving_place (rules_found sets s moment) (found sets s moment) request.party request.client (place (found sets s moment) request.party) (task request.kind) c.0 c.1))
+    (λ e. when_reply sets s request moment reply.Unqueued e, λ c. step_replied sets s request moment reply.Unqueued (giving_place (rules_found sets s moment) (state_found sets s moment) request.party request.client (place (state_found sets s moment) request.party) (task request.kind) c.0 c.1))
 
-pub nothing_held : (sets : List Rules) (s : State) (request : Request) (moment : ℕ) → (reply_to sets s request moment ≡ reply.NotHeld) ↔ ((is_about_own_seat request.kind ≡ true) × (place (found sets s moment) request.party ≡ Away))
+pub nothing_held : (sets : List Rules) (s : State) (request : Request) (moment : ℕ) → (reply_to sets s request moment ≡ reply.NotHeld) ↔ ((is_about_own_seat request.kind ≡ true) × (place (state_found sets s moment) request.party ≡ Away))
 nothing_held sets s request moment =
     let r : Rules = rules_found sets s moment in
-    let t : State = found sets s moment in
+    let t : State = state_found sets s moment in
     (λ e. when_reply sets s request moment reply.NotHeld e, λ c. step_replied sets s request moment reply.NotHeld (at_place r t request.party request.client (task request.kind) Away reply.NotHeld c.1 (own_away r t request.party request.client (task request.kind) c.0)))
 
 pub seats_linger : (sets : List Rules) (s : State) (request : Request) (moment until : ℕ)
-    → (reply_to sets s request moment ≡ reply.Lingering until) ↔ IsLeft (rules_found sets s moment) (found sets s moment) request until
+    → (reply_to sets s request moment ≡ reply.Lingering until) ↔ IsLeft (rules_found sets s moment) (state_found sets s moment) request until
 seats_linger sets s request moment until = (
   λ e. let c : _ = when_reply sets s request moment (reply.Lingering until) e in record { leaves = c.0; told = c.1; stays = c.2; end = c.3 },
   λ c. step_replied sets s request moment (reply.Lingering until)
-      (giving_told (rules_found sets s moment) (found sets s moment) request.party request.client (place (found sets s moment) request.party) (task request.kind) c.leaves c.told c.stays ∙ ap reply.Lingering (sym c.end)),
+      (giving_told (rules_found sets s moment) (state_found sets s moment) request.party request.client (place (state_found sets s moment) request.party) (task request.kind) c.leaves c.told c.stays ∙ ap reply.Lingering (sym c.end)),
 )
 
 pub seats_returned : (sets : List Rules) (s : State) (request : Request) (moment : ℕ)
-    → (reply_to sets s request moment ≡ reply.Returned) ↔ ((gives_back request.kind ≡ true) × (goes_at_once (rules_found sets s moment) (found sets s moment) (place (found sets s moment) request.party) ≡ true))
+    → (reply_to sets s request moment ≡ reply.Returned) ↔ ((gives_back request.kind ≡ true) × (goes_at_once (rules_found sets s moment) (state_found sets s moment) (place (state_found sets s moment) request.party) ≡ true))
 seats_returned sets s request moment =
-    (λ e. when_reply sets s request moment reply.Returned e, λ c. step_replied sets s request moment reply.Returned (giving_up (rules_found sets s moment) (found sets s moment) request.party request.client (place (found sets s moment) request.party) (task request.kind) c.0 c.1))
+    (λ e. when_reply sets s request moment reply.Returned e, λ c. step_replied sets s request moment reply.Returned (giving_up (rules_found sets s moment) (state_found sets s moment) request.party request.client (place (state_found sets s moment) request.party) (task request.kind) c.0 c.1))
 
 -- a denial
 
@@ -224,10 +224,10 @@ denied_comes r s request line (inr (q, c)) =
 
 pub denials_name : (sets : List Rules) (s : State) (request : Request) (moment line : ℕ)
     → (reply_to sets s request moment ≡ reply.Denied line)
-    ↔ (IsDenied (rules_found sets s moment) (found sets s moment) request line ⊎ ((q : Queuer) × IsBarredInQueue (rules_found sets s moment) (found sets s moment) request line q))
+    ↔ (IsDenied (rules_found sets s moment) (state_found sets s moment) request line ⊎ ((q : Queuer) × IsBarredInQueue (rules_found sets s moment) (state_found sets s moment) request line q))
 denials_name sets s request moment line = (
-  λ e. denied_of (rules_found sets s moment) (found sets s moment) request line (when_reply sets s request moment (reply.Denied line) e),
-  λ c. step_replied sets s request moment (reply.Denied line) (denied_comes (rules_found sets s moment) (found sets s moment) request line c),
+  λ e. denied_of (rules_found sets s moment) (state_found sets s moment) request line (when_reply sets s request moment (reply.Denied line) e),
+  λ c. step_replied sets s request moment (reply.Denied line) (denied_comes (rules_found sets s moment) (state_found sets s moment) request line c),
 )
 
 -- no seat
@@ -267,11 +267,11 @@ full_least : (r : Rules) (s : State) (request : Request) (a b : ℕ) → IsFull 
 full_least r s request a b c = omega (arith, none_left r s request.client c.none, c.charged, c.unreserved)
 
 pub no_seat_left : (sets : List Rules) (s : State) (request : Request) (moment taken free : ℕ)
-    → ((reply_to sets s request moment ≡ reply.NoSeat taken free) ↔ IsFull (rules_found sets s moment) (found sets s moment) request taken free)
+    → ((reply_to sets s request moment ≡ reply.NoSeat taken free) ↔ IsFull (rules_found sets s moment) (state_found sets s moment) request taken free)
     × (reply_to sets s request moment ≡ reply.NoSeat taken free → free ≤ taken)
 no_seat_left sets s request moment taken free =
     let r : Rules = rules_found sets s moment in
-    let t : State = found sets s moment in
+    let t : State = state_found sets s moment in
     let is : reply_to sets s request moment ≡ reply.NoSeat taken free → IsFull r t request taken free = λ e. full_of r t request taken free (when_reply sets s request moment (reply.NoSeat taken free) e) in
     ((is, λ c. step_replied sets s request moment (reply.NoSeat taken free) (full_comes r t request taken free c)), λ e. full_least r t request taken free (is e))
 
@@ -291,19 +291,19 @@ granted_comes r s request charge (inr (h, c)) =
 
 pub seats_granted : (sets : List Rules) (s : State) (request : Request) (moment : ℕ) (charge : Charge)
     → (reply_to sets s request moment ≡ reply.Granted charge)
-    ↔ (IsGranted (rules_found sets s moment) (found sets s moment) request charge ⊎ ((h : Holder) × IsToldLate (found sets s moment) request charge h))
+    ↔ (IsGranted (rules_found sets s moment) (state_found sets s moment) request charge ⊎ ((h : Holder) × IsToldLate (state_found sets s moment) request charge h))
 seats_granted sets s request moment charge = (
-  λ e. granted_of (rules_found sets s moment) (found sets s moment) request charge (when_reply sets s request moment (reply.Granted charge) e),
-  λ c. step_replied sets s request moment (reply.Granted charge) (granted_comes (rules_found sets s moment) (found sets s moment) request charge c),
+  λ e. granted_of (rules_found sets s moment) (state_found sets s moment) request charge (when_reply sets s request moment (reply.Granted charge) e),
+  λ c. step_replied sets s request moment (reply.Granted charge) (granted_comes (rules_found sets s moment) (state_found sets s moment) request charge c),
 )
 
 -- a seat is taken again
 
 pub seats_retaken : (sets : List Rules) (s : State) (request : Request) (moment : ℕ) (charge : Charge)
-    → (reply_to sets s request moment ≡ reply.Retaken charge) ↔ IsRetaken (rules_found sets s moment) (found sets s moment) request charge
+    → (reply_to sets s request moment ≡ reply.Retaken charge) ↔ IsRetaken (rules_found sets s moment) (state_found sets s moment) request charge
 seats_retaken sets s request moment charge =
     let r : Rules = rules_found sets s moment in
-    let t : State = found sets s moment in (
+    let t : State = state_found sets s moment in (
       λ e. let c : _ = when_reply sets s request moment (reply.Retaken charge) e in record { asks = c.0; away = c.1; retaken = c.2 },
       λ c. step_replied sets s request moment (reply.Retaken charge)
           (at_place r t request.party request.client (task request.kind) Away (reply.Retaken charge) c.away
@@ -358,10 +358,10 @@ reserved_before r s client e =
     (unless_else (excluded r client) Barred (unless (not_included r client) Barred third) Full (λ line f. cc) e))))
 
 pub reserves_used_up : (sets : List Rules) (s : State) (request : Request) (moment taken free : ℕ) → reply_to sets s request moment ≡ reply.NoSeat taken free
-    → (list_any (has_room (rules_found sets s moment) (found sets s moment) request.client) (rules_found sets s moment).reserves ≡ false) ⊎ ((rules_found sets s moment).count ≤ in_use (found sets s moment))
+    → (list_any (has_room (rules_found sets s moment) (state_found sets s moment) request.client) (rules_found sets s moment).reserves ≡ false) ⊎ ((rules_found sets s moment).count ≤ in_use (state_found sets s moment))
 reserves_used_up sets s request moment taken free e =
     let r : Rules = rules_found sets s moment in
-    let t : State = found sets s moment in
+    let t : State = state_found sets s moment in
     let full : IsFull r t request taken free = full_of r t request taken free (when_reply sets s request moment (reply.NoSeat taken free) e) in
     in_use_or r t request.client (used_up (ltb (in_use t) r.count) (list_any (has_room r t request.client) r.reserves)
     (sym (reserved_some r t request.client (ltb (in_use t) r.count) refl) ∙ reserved_before r t request.client full.none))
@@ -375,7 +375,7 @@ set_asked_of r s party client at (Reread m) n e = let same : Some m ≡ Some n =
 pub sets_reread : (sets : List Rules) (s : State) (request : Request) (moment set : ℕ) → (reply_to sets s request moment ≡ reply.Reread set) ↔ (set_asked request.kind ≡ Some set)
 sets_reread sets s request moment set = (
   λ e. ap set_of (when_reply sets s request moment (reply.Reread set) e),
-  λ c. step_replied sets s request moment (reply.Reread set) (set_asked_of (rules_found sets s moment) (found sets s moment) request.party request.client (place (found sets s moment) request.party) (task request.kind) set c),
+  λ c. step_replied sets s request moment (reply.Reread set) (set_asked_of (rules_found sets s moment) (state_found sets s moment) request.party request.client (place (state_found sets s moment) request.party) (task request.kind) set c),
 )
 
 -- no reply is of holding and of queueing at once
@@ -391,4 +391,4 @@ one_of_both r s client t at other w e = refl
 
 pub own_not_queued : (sets : List Rules) (s : State) (request : Request) (moment : ℕ) → is_of_holding (reply_to sets s request moment) ≡ true → is_of_queueing (reply_to sets s request moment) ≡ false
 own_not_queued sets s request moment =
-    one_of_both (rules_found sets s moment) (found sets s moment) request.client (task request.kind) (place (found sets s moment) request.party) (reply_to sets s request moment) (when_reply sets s request moment (reply_to sets s request moment) refl)
+    one_of_both (rules_found sets s moment) (state_found sets s moment) request.client (task request.kind) (place (state_found sets s moment) request.party) (reply_to sets s request moment) (when_reply sets s request moment (reply_to sets s request moment) refl)

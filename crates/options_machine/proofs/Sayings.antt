@@ -27,7 +27,7 @@ use Rattle.options_machine.specs.Step.{answer_by_decision, answer_of, answer_of_
 use Rattle.options_machine.specs.Run.{IsRun, after}
 use Rattle.options_machine.specs.Law.{AreSets}
 use Rattle.options_machine.specs.Own.{is_of_holding, is_of_queueing}
-use Rattle.options_machine.specs.Replies.{found, is_pending, is_told, reply_to}
+use Rattle.options_machine.specs.Replies.{state_found, is_pending, is_told, reply_to}
 use Rattle.options_machine.proofs.Counts.{count-cons, count_none, find_passes, none_left}
 use Rattle.options_machine.proofs.Owns.{found_one}
 use Rattle.options_machine.proofs.Runs.{kept_run, opening_kept}
@@ -184,7 +184,7 @@ pub replies_told : (sets : List Rules) (count : ℕ) (h : List Entry) (request :
     → (is_of_holding (reply_to sets (after sets h) request moment) ≡ is_told (place (step sets (after sets h) request moment).1 request.party))
     × (is_of_queueing (reply_to sets (after sets h) request moment) ≡ is_pending (place (step sets (after sets h) request moment).1 request.party))
 replies_told sets count h request moment g run n =
-    let t : State = found sets (after sets h) moment in
+    let t : State = state_found sets (after sets h) moment in
     let kept : IsKeptBy sets t = kept_settled sets count (after sets h) moment g (kept_run sets count opening h g run (opening_kept sets count g)) in
     let says : Says (step sets (after sets h) request moment) request.party = says_done sets t request.party request.client (task request.kind) n (kept.kept.single request.party) in
     let here : place (step sets (after sets h) request moment).1 request.party ≡ says.at = the_place (step sets (after sets h) request moment).1 request.party says.at says.is in

@@ -12,7 +12,7 @@ use Rattle.options_machine.specs.Apply.{IsPlace}
 use Rattle.options_machine.specs.Step.{task}
 use Rattle.options_machine.specs.Run.{Follows, after}
 use Rattle.options_machine.specs.Own.{Agrees, SeatsStay, brings_seat, fits_holder, is_of_holding, is_some_of, standing}
-use Rattle.options_machine.specs.Replies.{found, is_told, rules_found}
+use Rattle.options_machine.specs.Replies.{state_found, is_told, rules_found}
 use Rattle.options_machine.proofs.Counts.{all_found, and_left, find_passes}
 use Rattle.options_machine.proofs.Owns.{agrees_settle}
 use Rattle.options_machine.proofs.OwnSteps.{runs_agree}
@@ -46,7 +46,7 @@ seats_stay sets count h e g run held brings =
     let p : ℕ = e.request.party in
     let s : State = after sets h in
     let follows : Follows sets s e = run_last sets opening h e run in
-    let at : Place = place (found sets s e.moment) p in
-    let when : When (rules_found sets s e.moment) (found sets s e.moment) e.request.client (task e.request.kind) at e.reply = when_reply sets s e.request e.moment e.reply (sym follows.reply) in
-    let agrees : Agrees (standing h p) (found sets s e.moment) p = agrees_settle (standing h p) p (in_force sets s) s e.moment (runs_agree sets count h p g (run_front sets opening h e run)) in
-    told_stands (standing h p) (found sets s e.moment) p at (place_is (found sets s e.moment) p) (told_by (rules_found sets s e.moment) (found sets s e.moment) e.request.client (task e.request.kind) at e.reply when held brings) agrees
+    let at : Place = place (state_found sets s e.moment) p in
+    let when : When (rules_found sets s e.moment) (state_found sets s e.moment) e.request.client (task e.request.kind) at e.reply = when_reply sets s e.request e.moment e.reply (sym follows.reply) in
+    let agrees : Agrees (standing h p) (state_found sets s e.moment) p = agrees_settle (standing h p) p (in_force sets s) s e.moment (runs_agree sets count h p g (run_front sets opening h e run)) in
+    told_stands (standing h p) (state_found sets s e.moment) p at (place_is (state_found sets s e.moment) p) (told_by (rules_found sets s e.moment) (state_found sets s e.moment) e.request.client (task e.request.kind) at e.reply when held brings) agrees

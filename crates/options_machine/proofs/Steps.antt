@@ -25,7 +25,7 @@ use Rattle.options_machine.specs.declared.rows.Queuer.{Queuer}
 use Rattle.options_machine.specs.Rules.{IsSound, Rules, applies, cut_of}
 use Rattle.options_machine.specs.State.{State, charges, entries, in_force, in_use, is_holder, is_queuer, place, place_of, place_of_holder, same_charge, set_at}
 use Rattle.options_machine.specs.Decide.{decide, number_of_limit}
-use Rattle.options_machine.specs.Settle.{moved, serve, settle, timely, with_offer, with_queuer, with_seat, with_seat_again}
+use Rattle.options_machine.specs.Settle.{later_moment, serve, settle, timely, with_offer, with_queuer, with_seat, with_seat_again}
 use Rattle.options_machine.specs.Apply.{Fits, IsPlace, apply, told_if, with_lingerer, with_told, without_holder, without_queuer}
 use Rattle.options_machine.specs.Step.{answer_by_decision, answer_of, answer_of_return, entry_left, holders_anew, lingering_anew, lingers, next_charge, reserve_or_open, set_of, standing_of, step, step_of_task, task, times, to_away, to_told, to_untold, to_waiting, with_charges_anew}
 use Rattle.options_machine.specs.Run.{AsksForSet, IsBelow}
@@ -335,7 +335,7 @@ serve_now r s (q ∷ qs) = serve_now r (with_offer s q (decide r s q.client)) qs
 pub settle_set : (r : Rules) (s : State) (moment : ℕ) → (settle r s moment).set ≡ s.set
 settle_set r s moment = serve_set r (record (timely r s moment) { queue = [] }) s.queue
 
-pub settle_now : (r : Rules) (s : State) (moment : ℕ) → (settle r s moment).now ≡ moved s.now moment
+pub settle_now : (r : Rules) (s : State) (moment : ℕ) → (settle r s moment).now ≡ later_moment s.now moment
 settle_now r s moment = serve_now r (record (timely r s moment) { queue = [] }) s.queue
 
 -- what every step keeps, of a state of rule sets

@@ -15,7 +15,7 @@ use Rattle.options_machine.specs.declared.rows.Queuer.{Queuer}
 use Rattle.options_machine.specs.Rules.{IsSound, Rules, applies}
 use Rattle.options_machine.specs.State.{State, charges, entries, in_force, in_use, set_at}
 use Rattle.options_machine.specs.Decide.{decide, is_seat}
-use Rattle.options_machine.specs.Settle.{moved, settle}
+use Rattle.options_machine.specs.Settle.{later_moment, settle}
 use Rattle.options_machine.specs.Step.{set_asked, step}
 use Rattle.options_machine.specs.Run.{IsRun, after}
 
@@ -71,10 +71,10 @@ OpenStaysFree = (sets : List Rules) (count : ℕ) (h : List Entry) → AreSets s
 -- a step at the handed moment is the step at the moment that it used, which is that of the state after it; this is not before the state's own, and below 2^40 if that is
 abbrev pub StepsUseTheirMoment : Type 0
 StepsUseTheirMoment = (sets : List Rules) (s : State) (request : Request) (moment : ℕ) → s.now < MOMENT_END
-    → (step sets s request (moved s.now moment) ≡ step sets s request moment)
-    × ((step sets s request moment).1.now ≡ moved s.now moment)
-    × (s.now ≤ moved s.now moment)
-    × (moved s.now moment < MOMENT_END)
+    → (step sets s request (later_moment s.now moment) ≡ step sets s request moment)
+    × ((step sets s request moment).1.now ≡ later_moment s.now moment)
+    × (s.now ≤ later_moment s.now moment)
+    × (later_moment s.now moment < MOMENT_END)
 
 -- the moment of every state of a run is below 2^40
 abbrev pub MomentsAreBounded : Type 0

@@ -29,12 +29,12 @@ use Rattle.options_machine.specs.Law.{AreSets}
 use Rattle.options_machine.specs.Own.{is_of_holding, is_of_queueing}
 
 -- the state that a request finds: the moment has come, and the queue was served
-abbrev pub found : List Rules → State → ℕ → State
-found sets s moment = settle (in_force sets s) s moment
+abbrev pub state_found : List Rules → State → ℕ → State
+state_found sets s moment = settle (in_force sets s) s moment
 
 -- the rules by which it is answered
 abbrev pub rules_found : List Rules → State → ℕ → Rules
-rules_found sets s moment = in_force sets (found sets s moment)
+rules_found sets s moment = in_force sets (state_found sets s moment)
 
 -- what is answered
 abbrev pub reply_to : List Rules → State → Request → ℕ → Reply
@@ -126,8 +126,8 @@ pub record IsBarredInQueue (r : Rules) (s : State) (request : Request) (line : �
 abbrev pub DenialsNameTheirLine : Type 0
 DenialsNameTheirLine = (sets : List Rules) (s : State) (request : Request) (moment line : ℕ)
     → (reply_to sets s request moment ≡ reply.Denied line)
-    ↔ (IsDenied (rules_found sets s moment) (found sets s moment) request line
-    ⊎ ((q : Queuer) × IsBarredInQueue (rules_found sets s moment) (found sets s moment) request line q))
+    ↔ (IsDenied (rules_found sets s moment) (state_found sets s moment) request line
+    ⊎ ((q : Queuer) × IsBarredInQueue (rules_found sets s moment) (state_found sets s moment) request line q))
 
 -- a party that has nothing asks for a seat now, and there is none: so many are charged to Open, and so many does no RESERVE line keep
 pub record IsFull (r : Rules) (s : State) (request : Request) (taken free : ℕ) : Type 0 where
@@ -140,14 +140,14 @@ pub record IsFull (r : Rules) (s : State) (request : Request) (taken free : ℕ)
 -- that there is no seat is said exactly where there is none, with these numbers, and then none is left that no RESERVE line keeps
 abbrev pub NoSeatIsLeft : Type 0
 NoSeatIsLeft = (sets : List Rules) (s : State) (request : Request) (moment taken free : ℕ)
-    → ((reply_to sets s request moment ≡ reply.NoSeat taken free) ↔ IsFull (rules_found sets s moment) (found sets s moment) request taken free)
+    → ((reply_to sets s request moment ≡ reply.NoSeat taken free) ↔ IsFull (rules_found sets s moment) (state_found sets s moment) request taken free)
     × (reply_to sets s request moment ≡ reply.NoSeat taken free → free ≤ taken)
 
 -- where that is said, each RESERVE line that speaks of the client is used up, or all licences are in use
 abbrev pub ReservesAreUsedUp : Type 0
 ReservesAreUsedUp = (sets : List Rules) (s : State) (request : Request) (moment taken free : ℕ) → reply_to sets s request moment ≡ reply.NoSeat taken free
-    → (list_any (has_room (rules_found sets s moment) (found sets s moment) request.client) (rules_found sets s moment).reserves ≡ false)
-    ⊎ ((rules_found sets s moment).count ≤ in_use (found sets s moment))
+    → (list_any (has_room (rules_found sets s moment) (state_found sets s moment) request.client) (rules_found sets s moment).reserves ≡ false)
+    ⊎ ((rules_found sets s moment).count ≤ in_use (state_found sets s moment))
 
 -- a party that has nothing asks for a seat, and the rules grant one with this charge: cases 5 and 6
 pub record IsGranted (r : Rules) (s : State) (request : Request) (charge : Charge) : Type 0 where
@@ -165,7 +165,7 @@ pub record IsToldLate (s : State) (request : Request) (charge : Charge) (h : Hol
 abbrev pub SeatsAreGranted : Type 0
 SeatsAreGranted = (sets : List Rules) (s : State) (request : Request) (moment : ℕ) (charge : Charge)
     → (reply_to sets s request moment ≡ reply.Granted charge)
-    ↔ (IsGranted (rules_found sets s moment) (found sets s moment) request charge ⊎ ((h : Holder) × IsToldLate (found sets s moment) request charge h))
+    ↔ (IsGranted (rules_found sets s moment) (state_found sets s moment) request charge ⊎ ((h : Holder) × IsToldLate (state_found sets s moment) request charge h))
 
 -- a party that has nothing asks for a seat, and one with this charge lingers for its client: case 3
 pub record IsRetaken (r : Rules) (s : State) (request : Request) (charge : Charge) : Type 0 where
@@ -176,7 +176,7 @@ pub record IsRetaken (r : Rules) (s : State) (request : Request) (charge : Charg
 -- a seat is taken again exactly where a party that has nothing asks for one, and one lingers for its client
 abbrev pub SeatsAreRetaken : Type 0
 SeatsAreRetaken = (sets : List Rules) (s : State) (request : Request) (moment : ℕ) (charge : Charge)
-    → (reply_to sets s request moment ≡ reply.Retaken charge) ↔ IsRetaken (rules_found sets s moment) (found sets s moment) request charge
+    → (reply_to sets s request moment ≡ reply.Retaken charge) ↔ IsRetaken (rules_found sets s moment) (state_found sets s moment) request charge
 
 abbrev pub one_more : ℕ → ℕ
 one_more n = n + 1
@@ -195,19 +195,19 @@ PositionsAreTold = (sets : List Rules) (count : ℕ) (h : List Entry) (request :
 abbrev pub PlacesAreGivenBack : Type 0
 PlacesAreGivenBack = (sets : List Rules) (s : State) (request : Request) (moment : ℕ)
     → (reply_to sets s request moment ≡ reply.Unqueued)
-    ↔ ((gives_back request.kind ≡ true) × (is_waiting (place (found sets s moment) request.party) ≡ true))
+    ↔ ((gives_back request.kind ≡ true) × (is_waiting (place (state_found sets s moment) request.party) ≡ true))
 
 -- a party is told that it has a seat already exactly where it asks for one, and has one of which it was told
 abbrev pub SeatsAreHeldOnce : Type 0
 SeatsAreHeldOnce = (sets : List Rules) (s : State) (request : Request) (moment : ℕ)
     → (reply_to sets s request moment ≡ reply.AlreadyHeld)
-    ↔ ((asks_for_seat request.kind ≡ true) × (is_told (place (found sets s moment) request.party) ≡ true))
+    ↔ ((asks_for_seat request.kind ≡ true) × (is_told (place (state_found sets s moment) request.party) ≡ true))
 
 -- a party is told that it has no seat exactly where it asks about one, and has neither a seat nor a place in the queue
 abbrev pub NothingIsHeld : Type 0
 NothingIsHeld = (sets : List Rules) (s : State) (request : Request) (moment : ℕ)
     → (reply_to sets s request moment ≡ reply.NotHeld)
-    ↔ ((is_about_own_seat request.kind ≡ true) × (place (found sets s moment) request.party ≡ Away))
+    ↔ ((is_about_own_seat request.kind ≡ true) × (place (state_found sets s moment) request.party ≡ Away))
 
 -- a told holder gives its seat back, which lingers until this moment
 pub record IsLeft (r : Rules) (s : State) (request : Request) (until : ℕ) : Type 0 where
@@ -219,7 +219,7 @@ pub record IsLeft (r : Rules) (s : State) (request : Request) (until : ℕ) : Ty
 -- a seat lingers exactly where a told holder gives it back, and there is a linger time, and room
 abbrev pub SeatsLinger : Type 0
 SeatsLinger = (sets : List Rules) (s : State) (request : Request) (moment until : ℕ)
-    → (reply_to sets s request moment ≡ reply.Lingering until) ↔ IsLeft (rules_found sets s moment) (found sets s moment) request until
+    → (reply_to sets s request moment ≡ reply.Lingering until) ↔ IsLeft (rules_found sets s moment) (state_found sets s moment) request until
 
 -- a told holder whose seat doesn't linger, or a holder that wasn't told
 abbrev pub goes_at_once : Rules → State → Place → Bool
@@ -232,7 +232,7 @@ goes_at_once r s Away = false
 abbrev pub SeatsAreReturned : Type 0
 SeatsAreReturned = (sets : List Rules) (s : State) (request : Request) (moment : ℕ)
     → (reply_to sets s request moment ≡ reply.Returned)
-    ↔ ((gives_back request.kind ≡ true) × (goes_at_once (rules_found sets s moment) (found sets s moment) (place (found sets s moment) request.party) ≡ true))
+    ↔ ((gives_back request.kind ≡ true) × (goes_at_once (rules_found sets s moment) (state_found sets s moment) (place (state_found sets s moment) request.party) ≡ true))
 
 -- a party that waits, or has a seat that it wasn't told of
 abbrev pub is_pending : Place → Bool

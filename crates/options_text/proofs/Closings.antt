@@ -3,7 +3,7 @@ use Rattle.std.proofs.lemmas.Bool.{and_parts, leb-true, lt-ltb, ne_eqb}
 use Rattle.std.proofs.lemmas.List.{append-nil, length-append}
 use Rattle.std.specs.List.{list_all}
 use Rattle.lic_text.specs.Physical.{ends_in, is_continued}
-use Rattle.options_text.specs.Texts.{closed, spaced}
+use Rattle.options_text.specs.Texts.{closed_text, spaced}
 
 ends_at : (b : ℕ) (text : List ℕ) (i : ℕ) → 0 < length text → length text - 1 ≡ i → ends_in b text ≡ (get_or text i 0 == b)
 ends_at b text i h e = rw (lt-ltb 0 (length text) h, e) refl
@@ -35,7 +35,7 @@ not_closed text true h = continued_behind text []
 not_closed text false h = h
 
 -- a closed text isn't read as continued
-pub closed_ends : (text : List ℕ) → is_continued (closed text) ≡ false
+pub closed_ends : (text : List ℕ) → is_continued (closed_text text) ≡ false
 closed_ends text = not_closed text (is_continued text) refl
 
 -- one more where a text ends in a backslash
@@ -46,7 +46,7 @@ length_if : (text : List ℕ) (b : Bool) → length (cond b (text ++ 32 ∷ []) 
 length_if text true = length-append text (32 ∷ [])
 length_if text false = omega arith
 
-pub length_closed : (text : List ℕ) → length (closed text) ≡ length text + more_if (is_continued text)
+pub length_closed : (text : List ℕ) → length (closed_text text) ≡ length text + more_if (is_continued text)
 length_closed text = length_if text (is_continued text)
 
 -- the length of words with one byte between, one more where the last ends in a backslash
@@ -56,10 +56,10 @@ room (word ∷ []) = length word + more_if (is_continued word)
 room (word ∷ next ∷ words) = length word + 1 + room (next ∷ words)
 
 -- a line's text is as long as that
-pub length_text : (word : List ℕ) (words : List (List ℕ)) → length (closed (spaced word words)) ≡ room (word ∷ words)
-length_text word [] = ap (λ (text : List ℕ). length (closed text)) (append-nil word) ∙ length_closed word
+pub length_text : (word : List ℕ) (words : List (List ℕ)) → length (closed_text (spaced word words)) ≡ room (word ∷ words)
+length_text word [] = ap (λ (text : List ℕ). length (closed_text text)) (append-nil word) ∙ length_closed word
 length_text word (w ∷ ws) =
     let ends : more_if (is_continued (word ++ 32 ∷ spaced w ws)) ≡ more_if (is_continued (spaced w ws)) = ap more_if (continued_behind word (spaced w ws)) in
     let long : length (word ++ 32 ∷ spaced w ws) ≡ length word + length (32 ∷ spaced w ws) = length-append word (32 ∷ spaced w ws) in
-    let rest : length (closed (spaced w ws)) ≡ room (w ∷ ws) = length_text w ws in
+    let rest : length (closed_text (spaced w ws)) ≡ room (w ∷ ws) = length_text w ws in
     omega (arith, length_closed (word ++ 32 ∷ spaced w ws), ends, long, rest, length_closed (spaced w ws))

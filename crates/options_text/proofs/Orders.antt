@@ -7,10 +7,10 @@ use Rattle.lic_types.specs.declared.client.RuleLine.{RuleLine}
 use Rattle.lic_types.specs.declared.note.Note.{Note}
 use Rattle.options_text.specs.Answers.{◌>>=◌}
 use Rattle.options_text.specs.Entries.{entries_after, is_fit, is_within_limits, line_of}
-use Rattle.options_text.specs.Options.{IsOrderly, OptionsFile, first_untold, group_in, log_in, note_in, options_of, rule_in, sorted, unless_untold, with_groups_told}
+use Rattle.options_text.specs.Options.{IsOrderly, OptionsFile, first_undefined, group_in, log_in, note_in, options_of, rule_in, sorted, unless_undefined, with_groups_defined}
 use Rattle.options_text.specs.declared.entry.Entry.{Entry}
 use Rattle.options_text.specs.declared.entry.Entry.TheVariants.{Lists, Rules, Passes}
-use Rattle.options_text.specs.Names.{line_untold}
+use Rattle.options_text.specs.Names.{line_undefined}
 use Rattle.options_text.specs.declared.fault.OptionsFault.{OptionsFault}
 use Rattle.options_text.specs.declared.fault.OptionsFault.TheVariants.{UnknownGroup}
 use Rattle.options_text.proofs.Numbers.{entries_rise}
@@ -75,14 +75,14 @@ abbrev unless_line : OptionsFile → Option ℕ → Result OptionsFile OptionsFa
 unless_line options None = Ok options
 unless_line options (Some line) = Err (UnknownGroup line)
 
-line_or_rule : (options : OptionsFile) (found : Option RuleLine) → unless_line options (option_map (λ (rule : RuleLine). rule.line) found) ≡ unless_untold options found
+line_or_rule : (options : OptionsFile) (found : Option RuleLine) → unless_line options (option_map (λ (rule : RuleLine). rule.line) found) ≡ unless_undefined options found
 line_or_rule options None = refl
 line_or_rule options (Some rule) = refl
 
--- the answer of a file whose entries are these, where this is the line of what its rules leave untold
+-- the answer of a file whose entries are these, where this is the line of the first rule whose group is undefined
 pub whole : (file : List ℕ) (entries : List Entry) (options : OptionsFile) (line : Option ℕ)
-    → entries_after [] (lines_of file) ≡ Ok entries → options ≡ sorted entries → line ≡ line_untold options → unless_line options line ≡ options_of file
+    → entries_after [] (lines_of file) ≡ Ok entries → options ≡ sorted entries → line ≡ line_undefined options → unless_line options line ≡ options_of file
 whole file entries options line is same finds =
     ap (unless_line options) finds
-    ∙ (line_or_rule options (first_untold options)
-    ∙ (ap with_groups_told same ∙ ap (λ (r : Result (List Entry) OptionsFault). r >>= (λ es. with_groups_told (sorted es))) (sym is)))
+    ∙ (line_or_rule options (first_undefined options)
+    ∙ (ap with_groups_defined same ∙ ap (λ (r : Result (List Entry) OptionsFault). r >>= (λ es. with_groups_defined (sorted es))) (sym is)))

@@ -12,7 +12,7 @@ use Rattle.options_text.specs.Canonical.{canonical, entries_of, entry_text, in_l
 use Rattle.options_text.specs.Entries.{entries_after, entry_after, entry_behind, line_of, members_in, unless_crowded}
 use Rattle.options_text.specs.Forms.{entry_of}
 use Rattle.options_text.specs.Laws.{CanonicalReadsBack, CanonicalStays}
-use Rattle.options_text.specs.Options.{IsSaid, OptionsFile, first_untold, group_in, log_in, note_in, options_of, rule_in, sorted, unless_untold, with_groups_told}
+use Rattle.options_text.specs.Options.{IsSaid, OptionsFile, first_undefined, group_in, log_in, note_in, options_of, rule_in, sorted, unless_undefined, with_groups_defined}
 use Rattle.options_text.specs.Rises.{Rises}
 use Rattle.options_text.specs.Texts.{further, spaced}
 use Rattle.options_text.specs.declared.entry.Entry.{Entry}
@@ -165,7 +165,7 @@ lines_again before (line ∷ others) entries read h =
 
 -- The whole file.
 
-sorted_by : (options : OptionsFile) (found : Option RuleLine) (said : OptionsFile) → unless_untold options found ≡ Ok said → options ≡ said
+sorted_by : (options : OptionsFile) (found : Option RuleLine) (said : OptionsFile) → unless_undefined options found ≡ Ok said → options ≡ said
 sorted_by options None said h = cc
 sorted_by options (Some rule) said h = absurd cc
 
@@ -189,9 +189,9 @@ entries_back file entries is =
 pub reads_back : CanonicalReadsBack
 reads_back file options h =
     bind_ok (entries_after [] (lines_of file)) _ options h (λ entries first rest.
-    let same : sorted entries ≡ options = sorted_by (sorted entries) (first_untold (sorted entries)) options rest in
+    let same : sorted entries ≡ options = sorted_by (sorted entries) (first_undefined (sorted entries)) options rest in
     ap (λ (said : OptionsFile). options_of (canonical said)) (sym same)
-    ∙ (ap (λ r. r >>= λ es. with_groups_told (sorted es)) (entries_back file entries first) ∙ rest))
+    ∙ (ap (λ r. r >>= λ es. with_groups_defined (sorted es)) (entries_back file entries first) ∙ rest))
 
 -- the canonical text of what a canonical text says is that text
 pub stays : CanonicalStays

@@ -7,7 +7,7 @@ use Rattle.std.specs.List.{slice_split, onto_first, list_all, AllByRecursion}
 use Rattle.lic_text.specs.Physical.{is_blank, is_empty, is_continued}
 use Rattle.lic_text.specs.Lines.{words_of}
 use Rattle.lic_types.specs.Name.{is_name_byte}
-use Rattle.options_text.specs.Texts.{closed, spaced}
+use Rattle.options_text.specs.Texts.{closed_text, spaced}
 
 -- a word that can be written: one byte or more, each from 33 to 126
 pub record IsToken (word : List ℕ) : Type 0 where
@@ -62,7 +62,7 @@ either true words x y h g = h
 either false words x y h g = g
 
 -- the words of a line's text
-pub words_closed : (word : List ℕ) (words : List (List ℕ)) → IsToken word → AllByRecursion IsToken words → words_of (closed (spaced word words)) ≡ word ∷ words
+pub words_closed : (word : List ℕ) (words : List (List ℕ)) → IsToken word → AllByRecursion IsToken words → words_of (closed_text (spaced word words)) ≡ word ∷ words
 words_closed word words t ts =
     either (is_continued (spaced word words)) (word ∷ words) (spaced word words ++ 32 ∷ []) (spaced word words) (words_more word words t ts) (words_spaced word words t ts)
 
@@ -86,7 +86,7 @@ either_free : (b : Bool) (x y : List ℕ) → list_all (λ n. nat_le 32 n) x ≡
 either_free true x y h g = h
 either_free false x y h g = g
 
-pub closed_free : (word : List ℕ) (words : List (List ℕ)) → IsToken word → AllByRecursion IsToken words → list_all (λ b. nat_le 32 b) (closed (spaced word words)) ≡ true
+pub closed_free : (word : List ℕ) (words : List (List ℕ)) → IsToken word → AllByRecursion IsToken words → list_all (λ b. nat_le 32 b) (closed_text (spaced word words)) ≡ true
 closed_free word words t ts =
     let free : list_all (λ b. nat_le 32 b) (spaced word words) ≡ true = spaced_free word words t ts in
     either_free (is_continued (spaced word words)) (spaced word words ++ 32 ∷ []) (spaced word words) (both_free (spaced word words) (32 ∷ []) free refl) free

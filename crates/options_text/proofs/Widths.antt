@@ -1,12 +1,12 @@
 use Rattle.std.proofs.Common.{◌≡◌, ℕ, ◌+◌, ◌≤◌, Bool, true, false, not, cond, ltb, List, [], ◌∷◌, ◌++◌, length, filter, map, Option, None, Some, Result, Ok, Err, refl, sym, ap, subst, ◌∙◌, arith}
 use Rattle.std.proofs.lemmas.Bool.{ltb-false}
 use Rattle.std.specs.List.{slice_split, onto_first, AllByRecursion}
-use Rattle.lic_text.specs.Physical.{is_blank, is_comment, is_continued, is_empty, front_of, physical_lines}
-use Rattle.lic_text.specs.Lines.{Logical, Worded, ended, judged, joined, lines_from, lines_of, logical_lines, new_line, still_open, tells, unless_fault, up_to_fault, with_line, words_of}
+use Rattle.lic_text.specs.Physical.{is_blank, is_comment, is_continued, is_empty, without_last, physical_lines}
+use Rattle.lic_text.specs.Lines.{Logical, Worded, ended_lines, line_or_fault, with_text, lines_from, lines_of, logical_lines, new_line, still_open, tells, unless_fault, up_to_fault, with_line, words_of}
 use Rattle.lic_text.specs.declared.fault.TextFault.{TextFault}
 use Rattle.lic_text.specs.declared.fault.TextFault.TheVariants.{LineTooLong, OpenContinuation}
 use Rattle.lic_text.proofs.Cuts.{cut}
-use Rattle.options_text.specs.Texts.{closed, spaced}
+use Rattle.options_text.specs.Texts.{closed_text, spaced}
 use Rattle.options_text.proofs.Closings.{continued_behind, ends_step, length_text, more_if, room}
 
 -- the text of a line that was read: it has the line's words and at most 8,192 bytes, and doesn't end in a backslash
@@ -31,11 +31,11 @@ ends_both (x ∷ []) [] h g = h
 ends_both (x ∷ []) (y ∷ ys) h g = ends_step 92 x y ys ∙ g
 ends_both (x ∷ y ∷ ys) b h g = ends_step 92 x y (ys ++ b) ∙ ends_both (y ∷ ys) b (sym (ends_step 92 x y ys) ∙ h) g
 
-joined_by : (line : Logical) (text : List ℕ) (b : Bool) → is_continued text ≡ b → EndsWell line → EndsWell (cond b (record { first = line.first; text = line.text ++ (front_of text ++ 32 ∷ []); is_open = true }) (record { first = line.first; text = line.text ++ text; is_open = false }))
-joined_by line text true e h = ends_both line.text (front_of text ++ 32 ∷ []) h (continued_behind (front_of text) [])
+joined_by : (line : Logical) (text : List ℕ) (b : Bool) → is_continued text ≡ b → EndsWell line → EndsWell (cond b (record { first = line.first; text = line.text ++ (without_last text ++ 32 ∷ []); is_open = true }) (record { first = line.first; text = line.text ++ text; is_open = false }))
+joined_by line text true e h = ends_both line.text (without_last text ++ 32 ∷ []) h (continued_behind (without_last text) [])
 joined_by line text false e h = ends_both line.text text h e
 
-ends_joined : (line : Logical) (text : List ℕ) → EndsWell line → EndsWell (joined line text)
+ends_joined : (line : Logical) (text : List ℕ) → EndsWell line → EndsWell (with_text line text)
 ends_joined line text h = joined_by line text (is_continued text) refl h
 
 abbrev EndWell : List Logical → Type 0
@@ -50,14 +50,14 @@ new_or_none true line h = tt
 new_or_none false line h = h
 
 ends_with : (open_line : Option Logical) (number : ℕ) (text : List ℕ) → EndsIf open_line → EndsIf (with_line open_line number text)
-ends_with None number text h = new_or_none (is_comment text) (joined (new_line number) text) (ends_joined (new_line number) text refl)
+ends_with None number text h = new_or_none (is_comment text) (with_text (new_line number) text) (ends_joined (new_line number) text refl)
 ends_with (Some line) number text h = ends_joined line text h
 
 ended_by : (line : Logical) (b : Bool) (others : List Logical) → EndsWell line → EndWell others → EndWell (cond b [] (line ∷ []) ++ others)
 ended_by line true others h all = all
 ended_by line false others h all = (h, all)
 
-ends_ended : (line : Option Logical) (others : List Logical) → EndsIf line → EndWell others → EndWell (ended line ++ others)
+ends_ended : (line : Option Logical) (others : List Logical) → EndsIf line → EndWell others → EndWell (ended_lines line ++ others)
 ends_ended None others h all = all
 ends_ended (Some line) others h all = ended_by line line.is_open others h all
 
@@ -83,7 +83,7 @@ judged_by line true is_open e h = tt
 judged_by line false true e h = tt
 judged_by line false false e h = record { text = line.text; says = refl; short = ltb-false 8192 (length line.text) e; ends = h }
 
-read_judged : (line : Logical) → EndsWell line → AreRead (judged line)
+read_judged : (line : Logical) → EndsWell line → AreRead (line_or_fault line)
 read_judged line h = judged_by line (ltb 8192 (length line.text)) line.is_open refl h
 
 told_step : (line : Result Worded TextFault) (others : List (Result Worded TextFault)) → AreRead line → AllByRecursion AreRead (up_to_fault (filter tells others)) → AllByRecursion AreRead (up_to_fault (filter tells (line ∷ others)))
@@ -94,9 +94,9 @@ told_step (Ok line) others h all =
     ]
 told_step (Err fault) others h all = (tt, tt)
 
-read_told : (lines : List Logical) → EndWell lines → AllByRecursion AreRead (up_to_fault (filter tells (map judged lines)))
+read_told : (lines : List Logical) → EndWell lines → AllByRecursion AreRead (up_to_fault (filter tells (map line_or_fault lines)))
 read_told [] all = tt
-read_told (line ∷ others) all = told_step (judged line) (map judged others) (read_judged line all.0) (read_told others all.1)
+read_told (line ∷ others) all = told_step (line_or_fault line) (map line_or_fault others) (read_judged line all.0) (read_told others all.1)
 
 -- each line of a file was read from such a text
 pub lines_read : (file : List ℕ) → AllByRecursion AreRead (lines_of file)
@@ -188,6 +188,6 @@ room_within (word ∷ next ∷ others) (w ∷ []) h = absurd h.1.1
 room_within (word ∷ next ∷ others) (w ∷ v ∷ vs) h = omega (arith, h.0, room_within (next ∷ others) (v ∷ vs) h.1.1)
 
 -- a line's text of such words is no longer than 8,192 bytes
-pub short : (line : Worded) (word : List ℕ) (words : List (List ℕ)) → IsRead line → IsWithin (word ∷ words) line.1 → length (closed (spaced word words)) ≤ 8192
+pub short : (line : Worded) (word : List ℕ) (words : List (List ℕ)) → IsRead line → IsWithin (word ∷ words) line.1 → length (closed_text (spaced word words)) ≤ 8192
 short line word words read within =
     omega (arith, length_text word words, room_within (word ∷ words) line.1 within, ap room read.says, room_words read.text read.ends, read.short)

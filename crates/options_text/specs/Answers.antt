@@ -19,6 +19,6 @@ IsAnswer view (Ok x) whole = Ok (view x) ≡ whole
 IsAnswer view (Err fault) whole = fault ≢ NoMemory → Err fault ≡ whole
 
 -- these, and then those, if there are those
-abbrev pub with_front : {X : Type 0} → List X → Result (List X) OptionsFault → Result (List X) OptionsFault
-with_front front (Ok xs) = Ok (front ++ xs)
-with_front front (Err fault) = Err fault
+abbrev pub with_prefix : {X : Type 0} → List X → Result (List X) OptionsFault → Result (List X) OptionsFault
+with_prefix before (Ok xs) = Ok (before ++ xs)
+with_prefix before (Err fault) = Err fault

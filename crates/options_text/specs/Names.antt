@@ -5,7 +5,7 @@ use Rattle.lic_types.specs.declared.client.RuleLine.{RuleLine}
 use Rattle.lic_types.specs.declared.client.Who.{Who}
 use Rattle.lic_types.specs.declared.client.WhoKind.{WhoKind}
 use Rattle.lic_types.specs.declared.client.WhoKind.TheVariants.{User, Host, Display, Project, Group, HostGroup}
-use Rattle.options_text.specs.Options.{OptionsFile, first_untold}
+use Rattle.options_text.specs.Options.{OptionsFile, first_undefined}
 
 -- a name that is no group's, or one of the names of groups of its kind
 abbrev pub is_listed : List (List ℕ) → List (List ℕ) → WhoKind → List ℕ → Bool
@@ -22,5 +22,5 @@ is_known users hosts None = true
 is_known users hosts (Some who) = is_listed users hosts who.kind who.name
 
 -- the line of the first rule that names a group which no line of the whole file defines
-abbrev pub line_untold : OptionsFile → Option ℕ
-line_untold options = option_map (λ (rule : RuleLine). rule.line) (first_untold options)
+abbrev pub line_undefined : OptionsFile → Option ℕ
+line_undefined options = option_map (λ (rule : RuleLine). rule.line) (first_undefined options)

@@ -84,25 +84,25 @@ is_defined groups Group name = has_users groups name
 is_defined groups HostGroup name = has_hosts groups name
 
 -- a rule that names nobody, or somebody who is defined
-abbrev pub is_told : List GroupLine → Option Who → Bool
-is_told groups None = true
-is_told groups (Some who) = is_defined groups who.kind who.name
+abbrev pub is_nobody_or_defined : List GroupLine → Option Who → Bool
+is_nobody_or_defined groups None = true
+is_nobody_or_defined groups (Some who) = is_defined groups who.kind who.name
 
-abbrev pub unless_untold : OptionsFile → Option RuleLine → Result OptionsFile OptionsFault
-unless_untold options None = Ok options
-unless_untold options (Some rule) = Err (UnknownGroup rule.line)
+abbrev pub unless_undefined : OptionsFile → Option RuleLine → Result OptionsFile OptionsFault
+unless_undefined options None = Ok options
+unless_undefined options (Some rule) = Err (UnknownGroup rule.line)
 
 -- the first rule that names a group which no line of the whole file defines
-abbrev pub first_untold : OptionsFile → Option RuleLine
-first_untold options = find (λ (rule : RuleLine). not (is_told options.groups rule.who)) options.lines
+abbrev pub first_undefined : OptionsFile → Option RuleLine
+first_undefined options = find (λ (rule : RuleLine). not (is_nobody_or_defined options.groups rule.who)) options.lines
 
 -- the options, unless a rule names a group that no line of the whole file defines
-abbrev pub with_groups_told : OptionsFile → Result OptionsFile OptionsFault
-with_groups_told options = unless_untold options (first_untold options)
+abbrev pub with_groups_defined : OptionsFile → Result OptionsFile OptionsFault
+with_groups_defined options = unless_undefined options (first_undefined options)
 
 -- the options of a file
 abbrev pub options_of : List ℕ → Result OptionsFile OptionsFault
-options_of file = entries_after [] (lines_of file) >>= λ entries. with_groups_told (sorted entries)
+options_of file = entries_after [] (lines_of file) >>= λ entries. with_groups_defined (sorted entries)
 
 -- what holds of the options of every file
 pub record IsOrderly (options : OptionsFile) : Type 0 where

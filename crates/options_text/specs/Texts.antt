@@ -20,8 +20,8 @@ abbrev pub spaced : List ℕ → List (List ℕ) → List ℕ
 spaced keyword words = keyword ++ further words
 
 -- a text that isn't read as continued: one that ends in a backslash has a space more
-abbrev pub closed : List ℕ → List ℕ
-closed text = if is_continued text then text ++ 32 ∷ [] else text
+abbrev pub closed_text : List ℕ → List ℕ
+closed_text text = if is_continued text then text ++ 32 ∷ [] else text
 
 abbrev pub list_name : Bool → List ℕ
 list_name true = codes "HOST_GROUP"
@@ -84,8 +84,8 @@ rule_words rule = share_words rule.rule ++ feature_words rule.feature ++ who_wor
 
 -- the text of a rule's line
 unfoldable pub rule_text : RuleLine → List ℕ
-rule_text rule = closed (spaced (rule_name rule.rule ++ all_name rule.feature) (rule_words rule))
+rule_text rule = closed_text (spaced (rule_name rule.rule ++ all_name rule.feature) (rule_words rule))
 
 -- the text of a group's line
 unfoldable pub group_text : GroupLine → List ℕ
-group_text group = closed (spaced (list_name group.of_hosts) (group.name ∷ group.members))
+group_text group = closed_text (spaced (list_name group.of_hosts) (group.name ∷ group.members))

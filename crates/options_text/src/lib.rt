@@ -11,7 +11,7 @@ mod options;
 mod parts;
 mod reading;
 mod text;
-mod told;
+mod undefined;
 mod writing;
 
 pub use fault::OptionsFault;

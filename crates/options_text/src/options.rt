@@ -13,7 +13,7 @@ use crate::fault::OptionsFault;
 use crate::keyword::LogKeyword;
 use crate::parts::{Parts, sort};
 use crate::reading::read_entries;
-use crate::told::first_untold;
+use crate::undefined::first_undefined;
 use crate::writing::{Left, write_left};
 use group_roster::Roster;
 use lic_text::numbers_rise;
@@ -86,8 +86,8 @@ fn read_parts(alloc: Global, file: &[u8]) -> Result<Parts, OptionsFault>
     numbers_rise();
     let entries = read_entries(alloc, file)?;
     let parts = sort(alloc, entries)?;
-    let untold = first_untold(alloc, &parts)?;
-    match untold {
+    let undefined = first_undefined(alloc, &parts)?;
+    match undefined {
         None => Ok(parts),
         Some(line) => Err(OptionsFault::UnknownGroup(line)),
     }

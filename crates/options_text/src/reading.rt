@@ -2,7 +2,7 @@ ghost use Rattle.std.specs.Prelude.{◌≡◌, ◌+◌, ◌<◌, ◌≤◌, ◌^
 ghost use Rattle.std.specs.List.{list_all};
 ghost use Rattle.lic_text.specs.Left.{words_left};
 ghost use Rattle.lic_text.specs.Lines.{lines_of};
-ghost use Rattle.lic_text.specs.LinesLeft.{shown};
+ghost use Rattle.lic_text.specs.LinesLeft.{item_view};
 ghost use Rattle.options_text.specs.Answers.{IsAnswer};
 ghost use Rattle.options_text.specs.Entries.{entries_after, entry_behind, entry_next, is_fit, line_of, members_in};
 ghost use Rattle.options_text.specs.Forms.{entry_of, form_of};
@@ -95,7 +95,7 @@ fn read_line(
     before: usize,
     line: Result<Line<'_>, TextFault>,
 ) -> Result<Entry, OptionsFault>
-    ensures entry { IsAnswer (λ entry. entry) result (entry_behind before (shown line.entry)) }
+    ensures entry { IsAnswer (λ entry. entry) result (entry_behind before (item_view line.entry)) }
     ensures fit { IfOk result (λ entry. is_fit entry ≡ true) }
 {
     match line {
@@ -118,7 +118,7 @@ fn read_next(
     line: Result<Line<'_>, TextFault>,
 ) -> Result<Entry, OptionsFault>
     requires { members ≤ MEMBER_LIMIT }
-    ensures entry { IsAnswer (λ entry. entry) result (entry_next before members (shown line.entry)) }
+    ensures entry { IsAnswer (λ entry. entry) result (entry_next before members (item_view line.entry)) }
     ensures fit { IfOk result (λ entry. is_fit entry ≡ true) }
     ensures few { IfOk result (λ entry. members + members_in entry ≤ MEMBER_LIMIT) }
 {

@@ -1,6 +1,6 @@
 ghost use Rattle.std.specs.Prelude.{◌≡◌, ◌++◌, ◌∷◌, [], IfOk, OnOk, decimal, take};
 ghost use Rattle.lic_text.specs.Physical.{is_continued};
-ghost use Rattle.options_text.specs.Texts.{all_name, closed, feature_words, further, group_text, kind_name, list_name, log_name, rule_name, rule_text, share_words, span_words, who_words};
+ghost use Rattle.options_text.specs.Texts.{all_name, closed_text, feature_words, further, group_text, kind_name, list_name, log_name, rule_name, rule_text, share_words, span_words, who_words};
 
 use crate::keyword::LogKeyword;
 use itoa::Buffer;
@@ -15,7 +15,7 @@ fn is_continued(text: &[u8]) -> bool
 
 /// Ends the text of a line, so that a backslash at its end doesn't continue it.
 fn close(text: &mut Vec<u8>) -> Result<(), NoMemory>
-    ensures { OnOk result (text.new.items ≡ closed text.old.items) }
+    ensures { OnOk result (text.new.items ≡ closed_text text.old.items) }
 {
     if is_continued(text.as_slice()) {
         text.push(b' ')?;

@@ -2,7 +2,7 @@ use Rattle.std.proofs.Common.{◌≡◌, ℕ, ◌+◌, ◌-◌, ◌≤◌, List,
 use Rattle.std.proofs.lemmas.List.{drop-drop, drop-take, length-drop, length-take-le, take-append-drop, take-append-le, take_all}
 use Rattle.std.specs.Io.KnownBytes.{Appends}
 
--- a front of the piece was written, and this is its rest
+-- a prefix of the piece was written, and this is its rest
 pub record Written (old new : Option (List ℕ)) (piece rest : List ℕ) : Type 0 where
   pub count : ℕ
   pub within : count ≤ length piece

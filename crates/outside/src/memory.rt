@@ -2,7 +2,7 @@ ghost use Rattle.std.specs.Prelude.{◌≡◌, ◌≢◌, ◌⊎◌, ◌+◌, �
 ghost use Rattle.std.specs.Cmp.Lexicographic.{pointwise};
 ghost use Rattle.std.specs.Option.{option_copied};
 ghost use Rattle.outside.specs.Memory.{file_named, is_listed};
-ghost use Rattle.outside.specs.Told.{HasRisen, TakesFront, told_with};
+ghost use Rattle.outside.specs.Told.{HasRisen, TakesPrefix, held_after};
 
 use crate::asked::Asked;
 use crate::files::{FileFault, Files};
@@ -167,8 +167,8 @@ impl Sink for MemSink {
     ghost held = { λ s. Some s.bytes.items };
 
     fn write(&mut self, piece: &[u8]) -> Result<(), WriteFailed>
-        ensures ok { OnOk result (Some self.new.bytes.items ≡ told_with (Some self.old.bytes.items) piece.now) }
-        ensures err { OnErr result (TakesFront (Some self.old.bytes.items) (Some self.new.bytes.items) piece.now) }
+        ensures ok { OnOk result (Some self.new.bytes.items ≡ held_after (Some self.old.bytes.items) piece.now) }
+        ensures err { OnErr result (TakesPrefix (Some self.old.bytes.items) (Some self.new.bytes.items) piece.now) }
         ensures failed { OnErr result (HasRisen self.old.faults self.new.faults) }
         ensures steady { OnOk result (self.new.faults ≡ self.old.faults) }
         ensures later { self.old.faults ≤ self.new.faults }

@@ -1,6 +1,6 @@
 ghost use Rattle.std.specs.Prelude.{◌≡◌, ◌≤◌, ◌<◌, ◌∷◌, ◌++◌, ℕ, Err, IfOk, IfSome, OnOk, OnErr, None, length, map, string_bytes, take, vec_len};
 ghost use Rattle.std.specs.Io.KnownBytes.{Appends};
-ghost use Rattle.outside.specs.Told.{AppendsFront, HasRisen, TakesFront, told_with};
+ghost use Rattle.outside.specs.Told.{AppendsPrefix, HasRisen, TakesPrefix, held_after};
 
 use crate::asked::Asked;
 use crate::files::{FileFault, Files};
@@ -86,11 +86,11 @@ impl<R: rt::Files + Drop> Files for RealFiles<R> {
     }
 }
 
-/// Writes the whole piece, or fails, where a front of it was written. Where the writer tells what it holds, it holds
+/// Writes the whole piece, or fails, where a prefix of it was written. Where the writer tells what it holds, it holds
 /// just that behind what it held.
 pub fn write_all<W: Write>(writer: &mut W, piece: &[u8]) -> Result<(), WriteFailed>
     ensures whole { OnOk result (Appends (W.contents writer.old) (W.contents writer.new) piece.now) }
-    ensures front { OnErr result (AppendsFront (W.contents writer.old) (W.contents writer.new) piece.now) }
+    ensures front { OnErr result (AppendsPrefix (W.contents writer.old) (W.contents writer.new) piece.now) }
 {
     let mut rest = piece;
     while !rest.is_empty() {
@@ -122,15 +122,15 @@ impl<W: Write + Drop> Sink for RealSink<W> {
     ghost held = { λ s. None };
 
     fn write(&mut self, piece: &[u8]) -> Result<(), WriteFailed>
-        ensures ok { OnOk result (None ≡ told_with None piece.now) }
-        ensures err { OnErr result (TakesFront None None piece.now) }
+        ensures ok { OnOk result (None ≡ held_after None piece.now) }
+        ensures err { OnErr result (TakesPrefix None None piece.now) }
         ensures failed { OnErr result (HasRisen self.old.faults self.new.faults) }
         ensures steady { OnOk result (self.new.faults ≡ self.old.faults) }
         ensures later { self.old.faults ≤ self.new.faults }
 
-        // Where the writer below tells what it holds, it gained the whole piece, or a front of it.
+        // Where the writer below tells what it holds, it gained the whole piece, or a prefix of it.
         ensures whole { OnOk result (Appends (W.contents self.old.writer) (W.contents self.new.writer) piece.now) }
-        ensures front { OnErr result (AppendsFront (W.contents self.old.writer) (W.contents self.new.writer) piece.now) }
+        ensures front { OnErr result (AppendsPrefix (W.contents self.old.writer) (W.contents self.new.writer) piece.now) }
     {
         let written = write_all(&mut self.writer, piece);
         if written.is_err() {

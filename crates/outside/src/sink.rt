@@ -1,5 +1,5 @@
 ghost use Rattle.std.specs.Prelude.{◌≡◌, ℕ, ◌≤◌, List, Option, OnOk, OnErr};
-ghost use Rattle.outside.specs.Told.{HasRisen, TakesFront, told_with};
+ghost use Rattle.outside.specs.Told.{HasRisen, TakesPrefix, held_after};
 
 use thiserror::Error;
 
@@ -18,8 +18,8 @@ pub trait Sink {
 
     /// Takes the whole piece, or fails, where the count of faults rose and some first bytes of the piece were taken.
     fn write(&mut self, piece: &[u8]) -> Result<(), WriteFailed>
-        ensures ok { OnOk result (held self.new ≡ told_with (held self.old) piece.now) }
-        ensures err { OnErr result (TakesFront (held self.old) (held self.new) piece.now) }
+        ensures ok { OnOk result (held self.new ≡ held_after (held self.old) piece.now) }
+        ensures err { OnErr result (TakesPrefix (held self.old) (held self.new) piece.now) }
         ensures failed { OnErr result (HasRisen (faults self.old) (faults self.new)) }
         ensures steady { OnOk result (faults self.new ≡ faults self.old) }
         ensures later { faults self.old ≤ faults self.new };

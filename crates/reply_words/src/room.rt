@@ -3,11 +3,11 @@ ghost use Rattle.std.specs.Prelude.{◌≡◌, ◌+◌, ◌≤◌, ◌++◌, dec
 
 use itoa::Buffer;
 
-/// Writes a text behind the first `at` bytes of a room, and gives the place behind it.
+/// Writes a text behind the first `at` bytes of a room, and gives the offset behind it.
 pub fn put(room: &mut [u8], at: usize, text: &[u8]) -> usize
     requires { at + length text.now ≤ length room.old }
     ensures room { length room.new ≡ length room.old }
-    ensures place { result ≡ at + length text.now }
+    ensures offset { result ≡ at + length text.now }
     ensures written { take result room.new ≡ take at room.old ++ text.now }
 {
     let end = at + text.len();
@@ -15,12 +15,12 @@ pub fn put(room: &mut [u8], at: usize, text: &[u8]) -> usize
     end
 }
 
-/// Writes a number in decimal digits behind the first `at` bytes of a room, and gives the place behind it. It takes 20
+/// Writes a number in decimal digits behind the first `at` bytes of a room, and gives the offset behind it. It takes 20
 /// bytes at most.
 pub fn put_number(room: &mut [u8], at: usize, n: u64) -> usize
     requires { at + 20 ≤ length room.old }
     ensures room { length room.new ≡ length room.old }
-    ensures place { result ≤ at + 20 }
+    ensures offset { result ≤ at + 20 }
     ensures written { take result room.new ≡ take at room.old ++ decimal n }
 {
     let mut buffer = Buffer::new();

@@ -5,12 +5,12 @@ ghost use Rattle.reply_words.specs.Words.{charge_text, own_text, reply_text};
 use crate::room::{put, put_number};
 use options_machine::{Charge, Reply};
 
-/// Writes the words of a charge behind the first `at` bytes of a room, and gives the place behind them. They take 28 bytes
+/// Writes the words of a charge behind the first `at` bytes of a room, and gives the offset behind them. They take 28 bytes
 /// at most.
 pub fn put_charge(room: &mut [u8], at: usize, charge: &Charge) -> usize
     requires { at + 28 ≤ length room.old }
     ensures room { length room.new ≡ length room.old }
-    ensures place { result ≤ at + 28 }
+    ensures offset { result ≤ at + 28 }
     ensures written { take result room.new ≡ take at room.old ++ charge_text charge.now }
 {
     match charge {
@@ -26,7 +26,7 @@ pub fn put_charge(room: &mut [u8], at: usize, charge: &Charge) -> usize
 fn put_numbered(room: &mut [u8], at: usize, text: &[u8], n: u32) -> usize
     requires { at + length text.now + 20 ≤ length room.old }
     ensures room { length room.new ≡ length room.old }
-    ensures place { result ≤ at + length text.now + 20 }
+    ensures offset { result ≤ at + length text.now + 20 }
     ensures written { take result room.new ≡ take at room.old ++ (text.now ++ decimal n) }
 {
     let at = put(room, at, text);
@@ -36,7 +36,7 @@ fn put_numbered(room: &mut [u8], at: usize, text: &[u8], n: u32) -> usize
 fn put_own(room: &mut [u8], at: usize, own: bool, queued: bool) -> usize
     requires { at + 1 ≤ length room.old }
     ensures room { length room.new ≡ length room.old }
-    ensures place { result ≤ at + 1 }
+    ensures offset { result ≤ at + 1 }
     ensures written { take result room.new ≡ take at room.old ++ own_text own queued }
 {
     match (own, queued) {
@@ -46,13 +46,13 @@ fn put_own(room: &mut [u8], at: usize, own: bool, queued: bool) -> usize
     }
 }
 
-/// Writes the words of a reply behind the first `at` bytes of a room, and gives the place behind them. They take 130 bytes
+/// Writes the words of a reply behind the first `at` bytes of a room, and gives the offset behind them. They take 130 bytes
 /// at most.
 #[tactic(auto, using(std::proofs::lemmas::List::append_assoc))]
 pub fn put_reply(room: &mut [u8], at: usize, reply: &Reply) -> usize
     requires { at + 130 ≤ length room.old }
     ensures room { length room.new ≡ length room.old }
-    ensures place { result ≤ at + 130 }
+    ensures offset { result ≤ at + 130 }
     ensures written { take result room.new ≡ take at room.old ++ reply_text reply.now }
 {
     match reply {
@@ -102,7 +102,7 @@ pub fn put_reply(room: &mut [u8], at: usize, reply: &Reply) -> usize
 /// Writes the words of a reply at the start of the room, and gives how many bytes they take, 130 at most. The bytes of the
 /// room behind them are left open.
 pub fn reply_words(reply: &Reply, room: &mut [u8; 160]) -> usize
-    ensures place { result ≤ 130 }
+    ensures offset { result ≤ 130 }
     ensures written { take result room.new ≡ reply_text reply.now }
 {
     put_reply(room, 0, reply)

@@ -7,7 +7,7 @@ use Rattle.lic_types.specs.declared.limits.TheConstants.{MOMENT_END, PARTY_LIMIT
 use Rattle.lic_text.specs.Number.{number_of}
 use Rattle.options_machine.specs.declared.reply.Kind.{Kind}
 use Rattle.options_machine.specs.declared.reply.Kind.TheVariants.{Checkout, Checkin, Beat, Look, Quit, Count, Queue, Reread}
-use Rattle.script_words.specs.Fields.{and_then, below, client_of, named}
+use Rattle.script_words.specs.Fields.{and_then, below, client_of, name_or_fault}
 use Rattle.script_words.specs.declared.fault.ScriptWord.{ScriptWord}
 use Rattle.script_words.specs.declared.fault.ScriptWord.TheVariants.{UnknownWord, WordCount, BadVersion}
 use Rattle.script_text.specs.declared.line.ScriptLine.{ScriptLine}
@@ -37,14 +37,14 @@ verb_of verb =
 abbrev pub seat_asked : Kind → List ℕ → List (List ℕ) → Result Asked ScriptWord
 seat_asked kind feature [] = Err WordCount
 seat_asked kind feature (version ∷ []) =
-    and_then (named (name_of feature)) (λ f.
+    and_then (name_or_fault (name_of feature)) (λ f.
     and_then (version_of (key_of version)) (λ v.
     Ok (record { kind = kind; feature = Some f; version = Some v })))
 seat_asked kind feature (version ∷ next ∷ others) = Err WordCount
 
 -- anything else of a feature, by its word and the words behind it, which are to be none
 abbrev pub other_asked : Kind → List ℕ → List (List ℕ) → Result Asked ScriptWord
-other_asked kind feature [] = and_then (named (name_of feature)) (λ f. Ok (record { kind = kind; feature = Some f; version = None }))
+other_asked kind feature [] = and_then (name_or_fault (name_of feature)) (λ f. Ok (record { kind = kind; feature = Some f; version = None }))
 other_asked kind feature (next ∷ others) = Err WordCount
 
 -- another rule set, by the word for its number and the words behind it, which are to be none

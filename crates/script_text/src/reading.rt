@@ -1,6 +1,6 @@
 ghost use Rattle.std.specs.Prelude.{◌≡◌, ◌<◌, ◌^◌, IfOk, length, true};
 ghost use Rattle.std.specs.List.{list_all};
-ghost use Rattle.lic_text.specs.LinesLeft.{shown};
+ghost use Rattle.lic_text.specs.LinesLeft.{item_view};
 ghost use Rattle.lic_text.specs.Reads.{Reads};
 ghost use Rattle.script_text.specs.Fits.{is_fit};
 ghost use Rattle.script_text.specs.Script.{fault_told, line_of, script_of};
@@ -14,7 +14,7 @@ use std::alloc::Global;
 
 /// The script line of a logical line.
 fn read_line(line: Result<Line<'_>, TextFault>) -> Result<ScriptLine, ScriptFault>
-    ensures line { result ≡ line_of (shown line.entry) }
+    ensures line { result ≡ line_of (item_view line.entry) }
     ensures fit { IfOk result (λ line. is_fit line ≡ true) }
 {
     let line = line?;

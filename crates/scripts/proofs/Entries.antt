@@ -4,7 +4,7 @@ use Rattle.options_machine.specs.declared.reply.Reply.{Reply}
 use Rattle.options_machine.specs.Own.{holds, is_of_holding, is_of_queueing, is_some_of, queues, standing, stands_for}
 use Rattle.options_machine.specs.Rules.{Rules}
 use Rattle.options_machine.specs.Run.{IsBelow, IsRun, after}
-use Rattle.options_machine.specs.Settle.{moved}
+use Rattle.options_machine.specs.Settle.{later_moment}
 use Rattle.options_machine.specs.State.{State, opening}
 use Rattle.options_machine.specs.Step.{set_asked, step}
 use Rattle.options_machine.proofs.Quits.{standing-snoc}
@@ -22,7 +22,7 @@ after_entry_of sets h line small =
 -- its moment
 pub now_after : (sets : List Rules) (h : List Entry) (line : ScriptLine) → (after sets h).now < 2 ^ 40 → (after sets (h ++ entry_of sets h line ∷ [])).now < 2 ^ 40
 now_after sets h line small =
-    let now : (after sets (h ++ entry_of sets h line ∷ [])).now ≡ moved (after sets h).now line.moment =
+    let now : (after sets (h ++ entry_of sets h line ∷ [])).now ≡ later_moment (after sets h).now line.moment =
     ap (λ (s : State). s.now) (after_entry_of sets h line small) ∙ step_now sets (after sets h) (request_of line) line.moment in
     rw now (moved_within (after sets h).now line.moment small)
 

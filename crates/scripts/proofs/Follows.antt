@@ -13,10 +13,10 @@ use Rattle.options_machine.specs.declared.reply.Reply.{Reply}
 use Rattle.options_text.specs.Options.{OptionsFile}
 use Rattle.policy.specs.Pools.{rules_of}
 use Rattle.script_text.specs.declared.line.ScriptLine.{ScriptLine}
-use Rattle.scripts.specs.Ledgers.{Ledger, opened, opened_all}
+use Rattle.scripts.specs.Ledgers.{Ledger, new_ledger, new_ledgers}
 use Rattle.scripts.specs.Played.{AreRunsOf, IsRunOf}
 use Rattle.scripts.specs.PoolRuns.{entered_at, is_ready, places_with, run_of, run_walk, served_at}
-use Rattle.scripts.specs.Script.{entered, entry_of, ledger_walk, request_of}
+use Rattle.scripts.specs.Script.{with_entry_of, entry_of, ledger_walk, request_of}
 use Rattle.scripts.specs.Walk.{after_line, line_answer}
 use Rattle.scripts.specs.declared.answers.Answer.TheVariants as answers
 use Rattle.scripts.specs.declared.pool_run.PoolRun.{PoolRun}
@@ -43,7 +43,7 @@ module _ (sets lines : ℕ) (line : ScriptLine) (r : PoolRun) (l : Ledger) where
   kept_same within k = unwrap_or-slice_get r.places line.party false ∙ k.kept line.party within
 
   -- a run after the entry of a line
-  run_entered : line.party < 256 → IsRunOf sets lines r l → IsRunOf sets (lines + 1) (entered_at line r) (entered line l)
+  run_entered : line.party < 256 → IsRunOf sets lines r l → IsRunOf sets (lines + 1) (entered_at line r) (with_entry_of line l)
   run_entered within k =
       let inside : line.party < length r.places = rw k.room within in
       record {
@@ -104,7 +104,7 @@ are_ready sets lines (r ∷ rs) (l ∷ ls) h k =
     rw ready (are_ready sets lines rs ls h k.1)
 
 -- the run of a pool before the first line
-run_opened : (files : List OptionsFile) (pool : Pool) → IsRunOf (length files) 0 (run_of files pool) (opened files pool)
+run_opened : (files : List OptionsFile) (pool : Pool) → IsRunOf (length files) 0 (run_of files pool) (new_ledger files pool)
 run_opened files pool = record {
   pool = refl;
   rules = refl;
@@ -118,6 +118,6 @@ run_opened files pool = record {
   kept = λ party h. get_or-replicate 256 party false false h;
 }
 
-pub runs_opened : (files : List OptionsFile) (pools : List Pool) → AreRunsOf (length files) 0 (map (run_of files) pools) (opened_all pools files)
+pub runs_opened : (files : List OptionsFile) (pools : List Pool) → AreRunsOf (length files) 0 (map (run_of files) pools) (new_ledgers pools files)
 runs_opened files [] = tt
 runs_opened files (pool ∷ pools) = (run_opened files pool, runs_opened files pools)

@@ -9,8 +9,8 @@ use Rattle.options_machine.specs.declared.reply.Entry.{Entry}
 use Rattle.options_text.specs.Options.{OptionsFile}
 use Rattle.policy.specs.Pools.{rules_of}
 use Rattle.script_text.specs.declared.line.ScriptLine.{ScriptLine}
-use Rattle.scripts.specs.Ledgers.{Ledger, opened_all}
-use Rattle.scripts.specs.Script.{entered, entry_of, ledger_walk, ledgers_of}
+use Rattle.scripts.specs.Ledgers.{Ledger, new_ledgers}
+use Rattle.scripts.specs.Script.{with_entry_of, entry_of, ledger_walk, ledgers_of}
 use Rattle.scripts.specs.Walk.{after_line, after_lines}
 use Rattle.scripts.proofs.Entries.{entry_follows, now_after}
 use Rattle.scripts.proofs.Walks.{line_goes, lines_go, same_map}
@@ -40,7 +40,7 @@ module _ (files : List OptionsFile) where
     good = λ k. h.good (g.good k);
   }
 
-  good_on : (line : ScriptLine) (l : Ledger) → IsBelow (set_asked line.kind) (length files) → IsGood files l → IsGood files (entered line l)
+  good_on : (line : ScriptLine) (l : Ledger) → IsBelow (set_asked line.kind) (length files) → IsGood files l → IsGood files (with_entry_of line l)
   good_on line l asks k =
       let many : length l.sets ≡ length files = ap length k.rules ∙ length-map files (rules_of l.pool) in
       record {
@@ -49,7 +49,7 @@ module _ (files : List OptionsFile) where
         rules = k.rules;
       }
 
-  enters : (line : ScriptLine) (l : Ledger) → IsBelow (set_asked line.kind) (length files) → GoesOn files l (entered line l)
+  enters : (line : ScriptLine) (l : Ledger) → IsBelow (set_asked line.kind) (length files) → GoesOn files l (with_entry_of line l)
   enters line l asks = record { pool = refl; rest = entry_of l.sets l.run line ∷ []; run = refl; good = good_on line l asks }
 
   -- the ledgers that lines leave go on from those before them
@@ -64,10 +64,10 @@ module _ (files : List OptionsFile) where
   same_pools ls line = pools_stay ls (after_line ledger_walk (length files) ls line) (line_goes ledger_walk (length files) (GoesOn files) stays further enters ls line)
 
   -- the ledgers begin with the pools
-  pub opened_pools : (pools : List Pool) → map (λ (l : Ledger). l.pool) (opened_all pools files) ≡ pools
+  pub opened_pools : (pools : List Pool) → map (λ (l : Ledger). l.pool) (new_ledgers pools files) ≡ pools
   opened_pools [] = refl
   opened_pools (pool ∷ pools) = ap (λ (ps : List Pool). pool ∷ ps) (opened_pools pools)
 
 -- a script makes one history at each pool
 pub scripts_pooled : (pools : List Pool) (files : List OptionsFile) (lines : List ScriptLine) → map (λ (l : Ledger). l.pool) (ledgers_of pools files lines) ≡ pools
-scripts_pooled pools files lines = pools_stay files (opened_all pools files) (ledgers_of pools files lines) (all_go_on files (opened_all pools files) lines) ∙ opened_pools files pools
+scripts_pooled pools files lines = pools_stay files (new_ledgers pools files) (ledgers_of pools files lines) (all_go_on files (new_ledgers pools files) lines) ∙ opened_pools files pools

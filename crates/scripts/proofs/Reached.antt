@@ -14,7 +14,7 @@ use Rattle.outside.specs.declared.sink.WriteFailed.{WriteFailed}
 use Rattle.script_text.specs.Fits.{has_its_words, is_fit}
 use Rattle.script_text.specs.declared.line.ScriptLine.{ScriptLine}
 use Rattle.scripts.specs.Answers.{answer_text}
-use Rattle.scripts.specs.Ledgers.{Ledger, opened_all}
+use Rattle.scripts.specs.Ledgers.{Ledger, new_ledgers}
 use Rattle.scripts.specs.Played.{AreRunsOf, IsPlayed, IsReached, IsRunOf}
 use Rattle.scripts.specs.PoolRuns.{is_ready, pools_of, run_of, run_walk}
 use Rattle.scripts.specs.Reports.{reports, run_reports}
@@ -45,9 +45,9 @@ module _ (files : List OptionsFile) (pools : List Pool) where
   -- a script that begins
   abbrev reached_first : (rs : List PoolRun) → rs ≡ map (run_of files) pools → IsReached (length files) 0 pools rs
   reached_first rs is = record {
-    ledgers = opened_all pools files;
+    ledgers = new_ledgers pools files;
     pooled = opened_pools files pools;
-    follow = subst (λ (runs : List PoolRun). AreRunsOf (length files) 0 runs (opened_all pools files)) (sym is) (runs_opened files pools);
+    follow = subst (λ (runs : List PoolRun). AreRunsOf (length files) 0 runs (new_ledgers pools files)) (sym is) (runs_opened files pools);
   }
 
   -- a line more was entered

@@ -10,8 +10,8 @@ use Rattle.script_text.specs.declared.line.ScriptLine.{ScriptLine}
 use Rattle.scripts.specs.Answers.{answer_text}
 use Rattle.scripts.specs.Laws.{AnswersLine, AreAnswered, IsAnswered}
 use Rattle.scripts.specs.Ledgers.{Ledger}
-use Rattle.scripts.specs.Script.{entered, entry_of, ledger_walk}
-use Rattle.scripts.specs.Walk.{IsThere, after_asked, after_line, after_lines, after_sent, changed_at, entry_answer, sent, sent_answer}
+use Rattle.scripts.specs.Script.{with_entry_of, entry_of, ledger_walk}
+use Rattle.scripts.specs.Walk.{IsThere, after_asked, after_line, after_lines, after_sent, changed_at, entry_answer, destination, sent_answer}
 use Rattle.scripts.proofs.GoingOn.{GoesOn, all_go_on}
 use Rattle.scripts.proofs.Walks.{sent_there}
 
@@ -28,9 +28,9 @@ later files zero (x ∷ ls) (w ∷ ws) l k e = let same : x ≡ l = cc in record
 later files (suc at) (x ∷ ls) [] l k e = absurd k
 later files (suc at) (x ∷ ls) (w ∷ ws) l k e = let found = later files at ls ws l k.1 e in record { ledger = found.ledger; there = found.there; goes = found.goes }
 
-at_changed : (line : ScriptLine) (at : ℕ) (ls : List Ledger) (l : Ledger) → slice_get ls at ≡ Some l → slice_get (changed_at at (entered line) ls) at ≡ Some (entered line l)
+at_changed : (line : ScriptLine) (at : ℕ) (ls : List Ledger) (l : Ledger) → slice_get ls at ≡ Some l → slice_get (changed_at at (with_entry_of line) ls) at ≡ Some (with_entry_of line l)
 at_changed line at [] l e = absurd cc
-at_changed line zero (x ∷ ls) l e = let same : x ≡ l = cc in ap (λ (y : Ledger). Some (entered line y)) same
+at_changed line zero (x ∷ ls) l e = let same : x ≡ l = cc in ap (λ (y : Ledger). Some (with_entry_of line y)) same
 at_changed line (suc at) (x ∷ ls) l e = at_changed line at ls l e
 
 within : (at : ℕ) (ls : List Ledger) → at < length ls → (l : Ledger) × (slice_get ls at ≡ Some l)
@@ -47,7 +47,7 @@ answered : (files : List OptionsFile) (whole ls : List Ledger) (line : ScriptLin
     → IsAnswered whole (answer_text (sent_answer ledger_walk ls line found)) found
 answered files whole ls line (At at) h k =
     let (l, is) = within at ls h in
-    let found = later files at (changed_at at (entered line) ls) whole (entered line l) k (at_changed line at ls l is) in
+    let found = later files at (changed_at at (with_entry_of line) ls) whole (with_entry_of line l) k (at_changed line at ls l is) in
     record {
       pool = at;
       place = length l.run;
@@ -61,7 +61,7 @@ answered files whole ls line Unknown h k = tt
 answered files whole ls line (Expired day) h k = tt
 
 asked_answered : (files : List OptionsFile) (whole ls : List Ledger) (line : ScriptLine) (asked : Option ℕ) → AllZip (GoesOn files) (after_asked ledger_walk (length files) ls line asked) whole → AnswersLine whole ls line asked
-asked_answered files whole ls line None k = answered files whole ls line (sent ledger_walk ls line line.feature) (sent_there ledger_walk ls line line.feature) k
+asked_answered files whole ls line None k = answered files whole ls line (destination ledger_walk ls line line.feature) (sent_there ledger_walk ls line line.feature) k
 asked_answered files whole ls line (Some n) k = tt
 
 -- the output lines of script lines

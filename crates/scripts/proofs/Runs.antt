@@ -10,7 +10,7 @@ use Rattle.options_machine.specs.Rules.{Rules}
 use Rattle.options_text.specs.Options.{OptionsFile}
 use Rattle.script_text.specs.declared.line.ScriptLine.{ScriptLine}
 use Rattle.scripts.specs.Laws.{AreLawful, AreOrderly, AreRuns}
-use Rattle.scripts.specs.Ledgers.{Ledger, opened_all}
+use Rattle.scripts.specs.Ledgers.{Ledger, new_ledgers}
 use Rattle.scripts.specs.Script.{ledgers_of}
 use Rattle.scripts.proofs.GoingOn.{GoesOn, IsGood, all_go_on, scripts_pooled}
 use Rattle.scripts.proofs.Sets.{sets_of_files}
@@ -19,7 +19,7 @@ abbrev AllGood : List OptionsFile → List Ledger → Type 0
 AllGood files [] = Unit {0}
 AllGood files (l ∷ ls) = IsGood files l × AllGood files ls
 
-all_begin : (files : List OptionsFile) (pools : List Pool) → AllGood files (opened_all pools files)
+all_begin : (files : List OptionsFile) (pools : List Pool) → AllGood files (new_ledgers pools files)
 all_begin files [] = tt
 all_begin files (pool ∷ pools) = (record { run = tt; small = omega arith; rules = refl }, all_begin files pools)
 
@@ -31,7 +31,7 @@ all_good files (l ∷ ls) (m ∷ ms) g k = (g.0.good k.0, all_good files ls ms g
 
 -- the ledgers of a script are good
 script_good : (pools : List Pool) (files : List OptionsFile) (lines : List ScriptLine) → AllGood files (ledgers_of pools files lines)
-script_good pools files lines = all_good files (opened_all pools files) (ledgers_of pools files lines) (all_go_on files (opened_all pools files) lines) (all_begin files pools)
+script_good pools files lines = all_good files (new_ledgers pools files) (ledgers_of pools files lines) (all_go_on files (new_ledgers pools files) lines) (all_begin files pools)
 
 all_run : (files : List OptionsFile) (ls : List Ledger) → AllGood files ls → AreRuns ls
 all_run files [] k = tt

@@ -14,7 +14,7 @@ use Rattle.lic_types.specs.declared.version.Version.{Version}
 use Rattle.options_machine.specs.Run.{IsBelow}
 use Rattle.options_machine.specs.Step.{set_asked}
 use Rattle.script_text.specs.declared.line.ScriptLine.{ScriptLine}
-use Rattle.scripts.specs.Walk.{IsThere, Walk, after_asked, after_line, after_lines, after_sent, asked_answer, changed_at, entry_answer, found_or, is_kept, is_named, line_answer, routed, sent, sent_answer}
+use Rattle.scripts.specs.Walk.{IsThere, Walk, after_asked, after_line, after_lines, after_sent, asked_answer, changed_at, entry_answer, found_or, is_kept, is_named, line_answer, routed, destination, sent_answer}
 
 within_or : (i n at : ℕ) (b : Bool) (rest : Option ℕ) → (rest ≡ Some at → at < i + 1 + n) → cond b (Some i) rest ≡ Some at → at < i + suc n
 within_or i n at true rest h e = let same : i ≡ at = cc in omega arith
@@ -48,7 +48,7 @@ module _ {X : Type 0} (walk : Walk X) where
       subst (λ (n : ℕ). IsThere n (route (map walk.pool xs) name version.key moment)) (length-map xs walk.pool) (route_there (map walk.pool xs) name version.key moment)
 
   -- where a line goes, there is a pool
-  pub sent_there : (xs : List X) (line : ScriptLine) (feature : Option (List ℕ)) → IsThere (length xs) (sent walk xs line feature)
+  pub sent_there : (xs : List X) (line : ScriptLine) (feature : Option (List ℕ)) → IsThere (length xs) (destination walk xs line feature)
   sent_there xs line None = tt
   sent_there xs line (Some name) = found_there (is_kept walk name line.party) xs _ (there_by xs name line.moment line.version) _ refl
 
@@ -93,7 +93,7 @@ module _ {X : Type 0} (walk : Walk X) (sets : ℕ) (R : X → X → Type 0) (sta
   reread_goes line n xs is false below = all_stay xs
 
   asked_goes : (line : ScriptLine) (xs : List X) (asked : Option ℕ) → asked ≡ set_asked line.kind → AllZip R xs (after_asked walk sets xs line asked)
-  asked_goes line xs None is = sent_goes line (subst (λ (o : Option ℕ). IsBelow o sets) is tt) xs (sent walk xs line line.feature)
+  asked_goes line xs None is = sent_goes line (subst (λ (o : Option ℕ). IsBelow o sets) is tt) xs (destination walk xs line line.feature)
   asked_goes line xs (Some n) is = reread_goes line n xs is (ltb n sets) refl
 
   pub line_goes : (xs : List X) (line : ScriptLine) → AllZip R xs (after_line walk sets xs line)
@@ -125,7 +125,7 @@ module _ {X Y : Type 0} (v : Walk X) (w : Walk Y) (line : ScriptLine) (R S : X �
   same_routed xs ys name moment None k = ap (λ (found : Option ℕ). found_or found Unknown) (same_position (is_named v name) (is_named w name) (same_named name) 0 xs ys k)
   same_routed xs ys name moment (Some version) k = ap (λ (ps : List Pool). route ps name version.key moment) (same_map R v.pool w.pool pools xs ys k)
 
-  same_sent : (xs : List X) (ys : List Y) (feature : Option (List ℕ)) → AllZip R xs ys → sent v xs line feature ≡ sent w ys line feature
+  same_sent : (xs : List X) (ys : List Y) (feature : Option (List ℕ)) → AllZip R xs ys → destination v xs line feature ≡ destination w ys line feature
   same_sent xs ys None k = refl
   same_sent xs ys (Some name) k =
       ap (λ (found : Option ℕ). found_or found (routed v xs name line.moment line.version)) (same_position (is_kept v name line.party) (is_kept w name line.party) (same_kept name) 0 xs ys k)
@@ -144,7 +144,7 @@ module _ {X Y : Type 0} (v : Walk X) (w : Walk Y) (line : ScriptLine) (R S : X �
   same_there xs ys (Expired day) k = refl
 
   same_asked : (sets : ℕ) (xs : List X) (ys : List Y) (asked : Option ℕ) → AllZip R xs ys → asked_answer v sets xs line asked ≡ asked_answer w sets ys line asked
-  same_asked sets xs ys None k = ap (sent_answer v xs line) (same_sent xs ys line.feature k) ∙ same_there xs ys (sent w ys line line.feature) k
+  same_asked sets xs ys None k = ap (sent_answer v xs line) (same_sent xs ys line.feature k) ∙ same_there xs ys (destination w ys line line.feature) k
   same_asked sets xs ys (Some n) k = refl
 
   -- the line is answered the same
@@ -180,7 +180,7 @@ module _ {X Y : Type 0} (v : Walk X) (w : Walk Y) (line : ScriptLine) (R S : X �
   both_read xs ys false k = all_wait xs ys k
 
   both_asked : (sets : ℕ) (xs : List X) (ys : List Y) (asked : Option ℕ) → AllZip R xs ys → AllZip S (after_asked v sets xs line asked) (after_asked w sets ys line asked)
-  both_asked sets xs ys None k = rw (same_sent xs ys line.feature k) (both_sent xs ys (sent w ys line line.feature) k)
+  both_asked sets xs ys None k = rw (same_sent xs ys line.feature k) (both_sent xs ys (destination w ys line line.feature) k)
   both_asked sets xs ys (Some n) k = both_read xs ys (ltb n sets) k
 
   -- and both go on by the second relation

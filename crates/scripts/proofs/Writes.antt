@@ -1,5 +1,5 @@
 use Rattle.std.proofs.Common.{◌≡◌, ℕ, List, [], ◌++◌, Option, Ok, Err, refl, sym, ap, ◌∙◌, append_assoc, arith}
-use Rattle.outside.specs.Told.{Wrote, told_with}
+use Rattle.outside.specs.Told.{Wrote, held_after}
 use Rattle.outside.specs.declared.sink.WriteFailed.{WriteFailed}
 use Rattle.outside.proofs.Told.{front_within, told_none, told_twice}
 use Rattle.scripts.specs.Written.{IsLeft}
@@ -13,7 +13,7 @@ module _ {S : Type 0} {held : S → Option (List ℕ)} {faults : S → ℕ} wher
   pub left_more : {old now new : S} {left whole : List ℕ} {u : Unit {0}} (piece more : List ℕ) → IsLeft held faults old now left whole → left ≡ piece ++ more → Wrote held faults now new piece (Ok u) → IsLeft held faults old new more whole
   left_more piece more k e w = record {
     done = k.done ++ piece;
-    written = w.ok ∙ (ap (λ (h : Option (List ℕ)). told_with h piece) k.written ∙ told_twice (held _) k.done piece);
+    written = w.ok ∙ (ap (λ (h : Option (List ℕ)). held_after h piece) k.written ∙ told_twice (held _) k.done piece);
     all = append_assoc k.done piece more ∙ (ap (λ (l : List ℕ). k.done ++ l) (sym e) ∙ k.all);
     steady = w.steady ∙ k.steady;
   }

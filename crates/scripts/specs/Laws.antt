@@ -16,9 +16,9 @@ use Rattle.std.specs.List.Sorted.{IsStrictlyIncreasing}
 use Rattle.script_text.specs.Fits.{is_fit}
 use Rattle.script_text.specs.declared.line.ScriptLine.{ScriptLine}
 use Rattle.scripts.specs.Answers.{answer_text, reply_line}
-use Rattle.scripts.specs.Ledgers.{Ledger, opened_all}
+use Rattle.scripts.specs.Ledgers.{Ledger, new_ledgers}
 use Rattle.scripts.specs.Script.{ledger_walk, ledgers_of}
-use Rattle.scripts.specs.Walk.{after_line, sent, sent_answer}
+use Rattle.scripts.specs.Walk.{after_line, destination, sent_answer}
 
 -- the entries of each ledger are a run of its rule sets
 abbrev pub AreRuns : List Ledger → Type 0
@@ -66,7 +66,7 @@ IsAnswered whole line (Expired day) = Unit {0}
 
 -- the same of a script line that asks for no rule set
 abbrev pub AnswersLine : List Ledger → List Ledger → ScriptLine → Option ℕ → Type 0
-AnswersLine whole ledgers line None = IsAnswered whole (answer_text (sent_answer ledger_walk ledgers line (sent ledger_walk ledgers line line.feature))) (sent ledger_walk ledgers line line.feature)
+AnswersLine whole ledgers line None = IsAnswered whole (answer_text (sent_answer ledger_walk ledgers line (destination ledger_walk ledgers line line.feature))) (destination ledger_walk ledgers line line.feature)
 AnswersLine whole ledgers line (Some n) = Unit {0}
 
 -- the output line of each of these script lines that goes to a pool is the reply of an entry of the whole histories
@@ -76,14 +76,14 @@ AreAnswered sets whole ledgers (line ∷ lines) = AnswersLine whole ledgers line
 
 -- the output lines of a script are replies of entries of the histories that it makes
 abbrev pub LinesAreReplies : Type 0
-LinesAreReplies = (pools : List Pool) (files : List OptionsFile) (lines : List ScriptLine) → AreAnswered (length files) (ledgers_of pools files lines) (opened_all pools files) lines
+LinesAreReplies = (pools : List Pool) (files : List OptionsFile) (lines : List ScriptLine) → AreAnswered (length files) (ledgers_of pools files lines) (new_ledgers pools files) lines
 
 -- What a script makes at these pools by these options files: histories, one for each pool in their order, each a run of the pool's rule sets, in a lawful state; and the output lines are replies of their entries, with their places. In a run a denial names the line that denies, and no seat is said only where the rules find none.
 pub record Histories (pools : List Pool) (files : List OptionsFile) (lines : List ScriptLine) : Type 0 where
   pub pooled : map (λ (l : Ledger). l.pool) (ledgers_of pools files lines) ≡ pools
   pub runs : AreRuns (ledgers_of pools files lines)
   pub lawful : AreLawful (ledgers_of pools files lines)
-  pub replies : AreAnswered (length files) (ledgers_of pools files lines) (opened_all pools files) lines
+  pub replies : AreAnswered (length files) (ledgers_of pools files lines) (new_ledgers pools files) lines
   pub denials : DenialsNameTheirLine
   pub no_seat : NoSeatIsLeft
 

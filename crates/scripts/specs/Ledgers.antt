@@ -12,9 +12,9 @@ pub record Ledger : Type 0 where
   pub run : List Entry
 
 -- a pool with one rule set for each options file, and no entry yet
-abbrev pub opened : List OptionsFile → Pool → Ledger
-opened files pool = record { pool = pool; sets = map (rules_of pool) files; run = [] }
+abbrev pub new_ledger : List OptionsFile → Pool → Ledger
+new_ledger files pool = record { pool = pool; sets = map (rules_of pool) files; run = [] }
 
 -- the ledgers of all pools, before the first entry
-abbrev pub opened_all : List Pool → List OptionsFile → List Ledger
-opened_all pools files = map (opened files) pools
+abbrev pub new_ledgers : List Pool → List OptionsFile → List Ledger
+new_ledgers pools files = map (new_ledger files) pools

@@ -54,9 +54,9 @@ module _ {X : Type 0} (walk : Walk X) where
   routed xs name moment None = found_or (position_from (is_named name) 0 xs) Unknown
 
   -- where a line goes that names this feature, or none: to the first pool of the name at which its party keeps a place, if there is one
-  abbrev pub sent : List X → ScriptLine → Option (List ℕ) → Found
-  sent xs line None = Unknown
-  sent xs line (Some name) = found_or (position_from (is_kept name line.party) 0 xs) (routed xs name line.moment line.version)
+  abbrev pub destination : List X → ScriptLine → Option (List ℕ) → Found
+  destination xs line None = Unknown
+  destination xs line (Some name) = found_or (position_from (is_kept name line.party) 0 xs) (routed xs name line.moment line.version)
 
   -- what stands there after a line that went there
   abbrev pub after_sent : List X → ScriptLine → Found → List X
@@ -66,7 +66,7 @@ module _ {X : Type 0} (walk : Walk X) where
 
   -- after a line that asks for this rule set, or none, where there are so many: one that asks for a rule set that there is makes an entry at each pool
   abbrev pub after_asked : ℕ → List X → ScriptLine → Option ℕ → List X
-  after_asked sets xs line None = after_sent xs line (sent xs line line.feature)
+  after_asked sets xs line None = after_sent xs line (destination xs line line.feature)
   after_asked sets xs line (Some n) = if nat_lt n sets then map (walk.entered line) xs else xs
 
   -- after a line
@@ -89,7 +89,7 @@ module _ {X : Type 0} (walk : Walk X) where
   sent_answer xs line (Expired day) = answers.Expired day
 
   abbrev pub asked_answer : ℕ → List X → ScriptLine → Option ℕ → Answer
-  asked_answer sets xs line None = sent_answer xs line (sent xs line line.feature)
+  asked_answer sets xs line None = sent_answer xs line (destination xs line line.feature)
   asked_answer sets xs line (Some n) = set_answer sets n
 
   -- what a line is answered

@@ -3,7 +3,7 @@ ghost use Rattle.std.specs.List.{list_all};
 ghost use Rattle.lic_types.specs.declared.limits.TheConstants.{PARTY_LIMIT};
 ghost use Rattle.options_machine.specs.Run.{IsBelow};
 ghost use Rattle.options_machine.specs.Step.{set_asked};
-ghost use Rattle.outside.specs.Told.{HasRisen, TakesFront, Wrote, told_with};
+ghost use Rattle.outside.specs.Told.{HasRisen, TakesPrefix, Wrote, held_after};
 ghost use Rattle.script_text.specs.Fits.{is_fit};
 ghost use Rattle.scripts.specs.Laws.{Histories};
 ghost use Rattle.scripts.specs.PoolRuns.{entered_at, is_ready, pools_of, run_of, run_walk};
@@ -119,7 +119,7 @@ fn play_lines<O: Sink>(
 }
 
 /// Plays a script on the pools of a licence, each with one rule set for each of the options files, and writes one output
-/// line for each of its lines, in order. The set of number 0 holds at first. Where a write fails, a front of these lines
+/// line for each of its lines, in order. The set of number 0 holds at first. Where a write fails, a prefix of these lines
 /// was written.
 ///
 /// A REREAD line makes an entry at each pool and is answered `REREAD n`, where there is a set of its number, and else
@@ -141,8 +141,8 @@ pub fn play<O: Sink>(
     requires fit { list_all is_fit lines.now ≡ true }
     requires some { 0 < length options.now }
     requires few { length options.now ≤ 4 }
-    ensures ok { OnOk result (O.held out.new ≡ told_with (O.held out.old) (output_of licence.now.pools options.now lines.now)) }
-    ensures front { result ≡ Err PlayFault.WriteFailed → TakesFront (O.held out.old) (O.held out.new) (output_of licence.now.pools options.now lines.now) }
+    ensures ok { OnOk result (O.held out.new ≡ held_after (O.held out.old) (output_of licence.now.pools options.now lines.now)) }
+    ensures front { result ≡ Err PlayFault.WriteFailed → TakesPrefix (O.held out.old) (O.held out.new) (output_of licence.now.pools options.now lines.now) }
     ensures failed { result ≡ Err PlayFault.WriteFailed → HasRisen (O.faults out.old) (O.faults out.new) }
     ensures memory { result ≡ Err PlayFault.NoMemory → O.held out.new ≡ O.held out.old }
     ensures steady { result ≢ Err PlayFault.WriteFailed → O.faults out.new ≡ O.faults out.old }

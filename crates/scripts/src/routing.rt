@@ -1,7 +1,7 @@
 ghost use Rattle.std.specs.Prelude.{◌≡◌};
 ghost use Rattle.std.specs.List.{position_from};
 ghost use Rattle.scripts.specs.PoolRuns.{pools_of, run_walk};
-ghost use Rattle.scripts.specs.Walk.{is_kept, is_named, routed, sent};
+ghost use Rattle.scripts.specs.Walk.{is_kept, is_named, routed, destination};
 
 use crate::pool_run::PoolRun;
 use feature_lines::{Found, Licence};
@@ -40,7 +40,7 @@ fn route(licence: &Licence, runs: &[PoolRun], line: &ScriptLine, name: &Name) ->
 /// Where a line goes: to the first pool of its feature's name at which its party keeps a place, if there is one.
 pub(crate) fn find(licence: &Licence, runs: &[PoolRun], line: &ScriptLine) -> Found
     requires { pools_of runs.now ≡ licence.now.pools }
-    ensures { result ≡ sent run_walk runs.now line.now line.now.feature }
+    ensures { result ≡ destination run_walk runs.now line.now line.now.feature }
 {
     let Some(name) = &line.feature else {
         return Found::Unknown;

@@ -12,7 +12,7 @@ use Rattle.options_machine.specs.declared.rows.Queuer.{Queuer}
 use Rattle.options_machine.specs.Rules.{Rules}
 use Rattle.options_machine.specs.State.{State, is_holder}
 use Rattle.options_machine.specs.Decide.{decide}
-use Rattle.options_machine.specs.Settle.{in_time, moved, serve, settle, timely, with_holder, with_offer}
+use Rattle.options_machine.specs.Settle.{in_time, later_moment, serve, settle, timely, with_holder, with_offer}
 use Rattle.options_machine.specs.Apply.{apply, told_if}
 use Rattle.options_machine.specs.Step.{holders_anew, next_charge}
 use Rattle.options_machine.proofs.Counts.{count-cons, count-filter_le, count-with_holder}
@@ -68,9 +68,9 @@ heard_after_later now later (x ∷ xs) h =
 
 -- a settling, an effect and a rereading leave none that was heard after the moment
 
-pub unheard_timely : (r : Rules) (s : State) (moment : ℕ) → heard_after s.now s.holders ≡ 0 → heard_after (moved s.now moment) (in_time r.timeout (moved s.now moment) s.holders) ≡ 0
+pub unheard_timely : (r : Rules) (s : State) (moment : ℕ) → heard_after s.now s.holders ≡ 0 → heard_after (later_moment s.now moment) (in_time r.timeout (later_moment s.now moment) s.holders) ≡ 0
 unheard_timely r s moment e =
-    omega (arith, e, heard_after_later s.now (moved s.now moment) s.holders (moved_later s.now moment), timed_count (λ (h : Holder). ltb (moved s.now moment) h.beat) r.timeout (moved s.now moment) s.holders)
+    omega (arith, e, heard_after_later s.now (later_moment s.now moment) s.holders (moved_later s.now moment), timed_count (λ (h : Holder). ltb (later_moment s.now moment) h.beat) r.timeout (later_moment s.now moment) s.holders)
 
 pub unheard_settle : (r : Rules) (s : State) (moment : ℕ) → heard_after s.now s.holders ≡ 0 → heard_after (settle r s moment).now (settle r s moment).holders ≡ 0
 unheard_settle r s moment e =

@@ -9,7 +9,7 @@ use Rattle.options_machine.specs.Rules.{IsSound, Rules}
 use Rattle.options_machine.specs.State.{State, in_use}
 use Rattle.options_machine.specs.Decide.{has_room, number_of_limit, reserved}
 use Rattle.options_machine.specs.Law.{IsServed}
-use Rattle.options_machine.specs.Settle.{in_time, moved, serve, settle, timely}
+use Rattle.options_machine.specs.Settle.{in_time, later_moment, serve, settle, timely}
 use Rattle.options_machine.specs.Kept.{IsBounded, IsKept}
 use Rattle.options_machine.proofs.Counts.{length-filter_le}
 use Rattle.options_machine.proofs.Keeps.{Keeps, keeps_timely, timed_count}
@@ -28,13 +28,13 @@ kept_timely r s moment k =
 
 pub bounded_timely : (n : ℕ) (r : Rules) (s : State) (moment : ℕ) → IsBounded n s → IsBounded n (timely r s moment)
 bounded_timely n r s moment b = record {
-  outside = omega (arith, b.outside, timed_count (λ (h : Holder). leb n h.party) r.timeout (moved s.now moment) s.holders);
-  lingering = omega (arith, b.lingering, length-filter_le (λ (l : Lingerer). ltb (moved s.now moment) l.until) s.lingering);
+  outside = omega (arith, b.outside, timed_count (λ (h : Holder). leb n h.party) r.timeout (later_moment s.now moment) s.holders);
+  lingering = omega (arith, b.lingering, length-filter_le (λ (l : Lingerer). ltb (later_moment s.now moment) l.until) s.lingering);
   moment = moved_within s.now moment b.moment;
 }
 
 -- where nothing went and nobody waits who could have a seat, serving changes nothing
-pub settled_alone : (r : Rules) (s t : State) (moment : ℕ) → t ≡ timely r s moment → t ≡ record s { now = moved s.now moment } → IsServed r s → t ≡ settle r s moment
+pub settled_alone : (r : Rules) (s t : State) (moment : ℕ) → t ≡ timely r s moment → t ≡ record s { now = later_moment s.now moment } → IsServed r s → t ≡ settle r s moment
 settled_alone r s t moment e f served =
-    let u : State = record s { now = moved s.now moment } in
+    let u : State = record s { now = later_moment s.now moment } in
     f ∙ sym (ap (λ (v : State). serve r (record v { queue = [] }) s.queue) (sym e ∙ f) ∙ served_stays r u served)

@@ -1,6 +1,6 @@
 //! What is over at a moment.
 ghost use Rattle.std.specs.Prelude.{◌≡◌, ◌+◌, ◌<◌, ◌≤◌, true, false, not, ◌&&◌, if◌then◌else◌, filter, length, nat_lt};
-ghost use Rattle.options_machine.specs.Settle.{in_time, moved, timely};
+ghost use Rattle.options_machine.specs.Settle.{in_time, later_moment, timely};
 ghost use Rattle.seat_rows.specs.Seats.{is_heard};
 ghost use Rattle.linger_table.specs.Table.{stays_at};
 ghost use Rattle.seat_book.specs.Beats.{heard_after};
@@ -102,7 +102,7 @@ pub(crate) fn let_go(rules: &DeskRules, parts: &mut Parts, moment: u64)
     requires counted { AreCounted rules.now parts.old }
     requires unheard { heard_after parts.old.moment parts.old.seats.holders ≡ 0 }
     ensures state { state_of parts.new ≡ timely rules.now (state_of parts.old) moment }
-    ensures served { parts.new.is_served ≡ true → (parts.old.is_served ≡ true) × (state_of parts.new ≡ record (state_of parts.old) { now = moved parts.old.moment moment }) }
+    ensures served { parts.new.is_served ≡ true → (parts.old.is_served ≡ true) × (state_of parts.new ≡ record (state_of parts.old) { now = later_moment parts.old.moment moment }) }
     ensures counted { AreCounted rules.now parts.new }
     ensures room { HasSameRoom parts.old parts.new }
 {

@@ -2,7 +2,7 @@
 use Rattle.std.proofs.Common.{◌≡◌, ℕ, ◌+◌, ◌-◌, List, [], ◌∷◌, ◌++◌, refl, sym, ap, ◌∙◌, subst}
 use Rattle.kex_core.specs.declared.place.Place.{Place}
 use Rattle.kex_core.specs.declared.place.Place.TheVariants.{Out, Dec, Mark, Look, Spin, Naming, Named, Holding, Clearing, Inc, Unmark}
-use Rattle.kex_core.specs.Worlds.{due, found, after}
+use Rattle.kex_core.specs.Worlds.{due, value_found, after}
 use Rattle.kex_core.specs.Laws.{Placed}
 use Rattle.kex_core.specs.Costs.{is_spin, kept_at}
 use Rattle.kex_core.specs.Shapes.{plan}
@@ -31,11 +31,11 @@ module _ (p q : Pass) (m : Moved p q) where
 
   -- what the access found
   pub met : ℕ
-  met = found m.ruled.world p.number (due_at p)
+  met = value_found m.ruled.world p.number (due_at p)
 
   pub moved_place : (d : Place) → due_at p ≡ d → q.place ≡ after (plan p.table.net) p.number d met
   unfolding met
-  moved_place d e = ap (λ (z : Pass). z.place) m.now ∙ ap (λ (z : Place). after (plan p.table.net) p.number z (found m.ruled.world p.number (due_at p))) e
+  moved_place d e = ap (λ (z : Pass). z.place) m.now ∙ ap (λ (z : Place). after (plan p.table.net) p.number z (value_found m.ruled.world p.number (due_at p))) e
 
   pub moved_got : (d : Place) → due_at p ≡ d → q.got ≡ got_after d p.got
   moved_got d e = ap (λ (z : Pass). z.got) m.now ∙ ap (λ (z : Place). got_after z p.got) e
@@ -46,7 +46,7 @@ module _ (p q : Pass) (m : Moved p q) where
   pub rests_out : kind_of q.place ≡ outside → IsOut q
   rests_out k =
       let o = is_out q.place k in
-      let a : after (plan p.table.net) p.number (due_at p) (found m.ruled.world p.number (due_at p)) ≡ Out = sym (ap (λ (z : Pass). z.place) m.now) ∙ o in
+      let a : after (plan p.table.net) p.number (due_at p) (value_found m.ruled.world p.number (due_at p)) ≡ Out = sym (ap (λ (z : Pass). z.place) m.now) ∙ o in
       record {
         place_is = o;
         firsts = ap (λ (z : Pass). z.firsts) m.now ∙ ap (λ (z : Place). kept_at z (p.firsts + 1 - is_spin (due_at p))) a;

@@ -3,7 +3,7 @@ use Rattle.std.proofs.Common.{◌≡◌, ◌≢◌, ◌⊎◌, ℕ, ◌+◌, ◌
 use Rattle.kex_core.specs.declared.place.Place.{Place}
 use Rattle.kex_core.specs.declared.place.Place.TheVariants.{Out, Dec, Mark, Look, Spin, Naming, Named, Holding, Clearing, Inc, Unmark}
 use Rattle.kex_core.specs.Nets.{Plan}
-use Rattle.kex_core.specs.Worlds.{passed, found, after}
+use Rattle.kex_core.specs.Worlds.{passed, value_found, after}
 use Rattle.kex_core.specs.Shapes.{plan}
 use Rattle.kex_core.specs.Costs.{bound}
 use Rattle.kex_core.proofs.Sums.{chosen, eq_test, ne_test, eq_from, ne_from}
@@ -72,7 +72,7 @@ moved_along p q r m e = record { state = m.state; ruled = m.ruled; seat = m.seat
 pub turned_by : (p q : Pass) (t : Turn) → kind_of (due_at p) ≡ entering → Moved p q → pass_in_turn t ≡ q → kind_in_turn t ≡ kind_of q.place → Turned p t
 unfolding moved_along
 turned_by p q t d m same k =
-    let n = found m.ruled.world p.number (due_at p) in
+    let n = value_found m.ruled.world p.number (due_at p) in
     let a : kind_of q.place ≡ kind_of (after (plan p.table.net) p.number (due_at p) n) = ap (λ (z : Pass). kind_of z.place) m.now in
     record {
       moved = moved_along p q (pass_in_turn t) m same;

@@ -3,7 +3,7 @@ use Rattle.std.specs.Prelude.{◌≡◌, ◌≢◌, ◌⊎◌, ◌↔◌, ℕ, �
 use Rattle.kex_core.specs.declared.place.Place.{Place}
 use Rattle.kex_core.specs.declared.place.Place.TheVariants.{Out, Dec, Mark, Look, Spin, Naming, Named, Holding, Clearing, Inc, Unmark}
 use Rattle.kex_core.specs.Nets.{Plan}
-use Rattle.kex_core.specs.Worlds.{found}
+use Rattle.kex_core.specs.Worlds.{value_found}
 use Rattle.kex_core.specs.Shapes.{plan}
 use Rattle.kex_words.specs.Passes.{Pass, Kind, due_at, entering, naming, named}
 use Rattle.kex_words.specs.Moves.{Moved}
@@ -55,4 +55,4 @@ Stays net p (Unmark j) n = ⊥
 -- the turn made the one access that was due for p, and tells Again exactly where that leaves p among the stages
 pub record Turned (p : Pass) (t : Turn) : Type 0 where
   pub moved : Moved p (pass_in_turn t)
-  pub again : IsAgain t ↔ Stays (plan p.table.net) p.number (due_at p) (found moved.ruled.world p.number (due_at p))
+  pub again : IsAgain t ↔ Stays (plan p.table.net) p.number (due_at p) (value_found moved.ruled.world p.number (due_at p))

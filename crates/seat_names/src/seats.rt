@@ -3,7 +3,7 @@ ghost use Rattle.std.specs.Prelude.{◌≡◌, ℕ, ◌+◌, ◌*◌, ◌%◌, �
 ghost use Rattle.kex_core.specs.declared.place.Place.TheVariants.{Holding};
 ghost use Rattle.kex_core.specs.Costs.{depth};
 ghost use Rattle.kex_core.specs.Shapes.{plan};
-ghost use Rattle.kex_words.specs.Passes.{Pass, IsOut, unused, used_card, counted_card, times, taken, due_at, kind_of, entering};
+ghost use Rattle.kex_words.specs.Passes.{Pass, IsOut, unused, used_card, counted_card, times, times_taken, due_at, kind_of, entering};
 ghost use Rattle.kex_words.specs.Steps.{numbers_of};
 ghost use Rattle.kex_words.specs.Moves.{Moved};
 ghost use Rattle.kex_words.specs.Sorts.{pass_in_next, pass_in_back, kind_in_next, kind_in_back};
@@ -180,7 +180,7 @@ impl Seats {
         ensures uses { sum_by (λ c. c.uses) result.items % 2 ^ 64 ≡ sum_by (λ p. length p.got) passes.items % 2 ^ 64 }
         ensures numbers { (q : ℕ) → q < self.net.parties → times q (numbers_of passes.items) ≡ 1 }
         ensures below { All (λ p. p.number < self.net.parties) passes.items }
-        ensures got { (s : ℕ) → self.net.width ≤ s → taken s passes.items ≡ 0 }
+        ensures got { (s : ℕ) → self.net.width ≤ s → times_taken s passes.items ≡ 0 }
     {
         let Seats { table } = self;
         table.close(passes)

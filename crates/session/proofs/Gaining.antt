@@ -10,7 +10,7 @@ use Rattle.counter.specs.declared.glance.Glance.{Glance}
 use Rattle.lic_types.specs.declared.client.Client.{Client}
 use Rattle.options_machine.specs.Rules.{Rules}
 use Rattle.options_machine.specs.Run.{IsRun, after}
-use Rattle.options_machine.specs.Settle.{moved}
+use Rattle.options_machine.specs.Settle.{later_moment}
 use Rattle.options_machine.specs.declared.reply.Entry.{Entry}
 use Rattle.options_machine.specs.declared.reply.Kind.{Kind}
 use Rattle.session.specs.Acts.{Act, Enter, Look, Shown, askings, sights}
@@ -35,7 +35,7 @@ gained_one {old} {new} {what} {who} {at} {answer} {a} h = record {
       rest = [];
       is = h.enters.seen;
       asker = h.enters.asker ∙ sym h.enters.party;
-      moment = h.enters.moment ∙ ap (λ (s : List Rules). moved (after s a.before).now at) (sym h.enters.sets) ∙ ap (λ (t : ℕ). moved (after new.sets a.before).now t) (sym h.handed);
+      moment = h.enters.moment ∙ ap (λ (s : List Rules). later_moment (after s a.before).now at) (sym h.enters.sets) ∙ ap (λ (t : ℕ). later_moment (after new.sets a.before).now t) (sym h.handed);
       seats = h.seats;
     },
     tt,

@@ -3,7 +3,7 @@ use Rattle.std.proofs.Common.{append_assoc, ◌≡◌, ◌∙◌, ◌++◌, ◌�
 use Rattle.std.proofs.lemmas.Grind.{flat_map-append}
 use Rattle.std.specs.List.{AllByRecursion, flat_map}
 use Rattle.std.proofs.lemmas.List.{append-nil}
-use Rattle.line_protocol.specs.Streams.{Begins, joined}
+use Rattle.line_protocol.specs.Streams.{Begins, stream_of}
 use Rattle.session.specs.Reading.{HasRead, IsLine, SessionsRead, heard_in, heard_of}
 use Rattle.feature_lines.specs.declared.route.Found.{Found}
 use Rattle.feature_lines.specs.declared.route.Found.TheVariants.{Pool as At, Unknown, Expired}
@@ -89,14 +89,14 @@ answers_heard o acts client (Ok request) new then out h = obeys_heard o acts cli
 -- lines that were read so far, and what waits
 record Read (acts : List Act) (pending : List ℕ) : Type 0 where
   lines : List (List ℕ)
-  heard : heard_of acts ≡ joined lines pending
+  heard : heard_of acts ≡ stream_of lines pending
   each : AllByRecursion IsLine lines
 
-joined_piece : (lines : List (List ℕ)) (pending piece : List ℕ) → joined lines pending ++ piece ≡ joined lines (pending ++ piece)
+joined_piece : (lines : List (List ℕ)) (pending piece : List ℕ) → stream_of lines pending ++ piece ≡ stream_of lines (pending ++ piece)
 joined_piece [] pending piece = refl
-joined_piece (l ∷ ls) pending piece = append_assoc l (10 ∷ joined ls pending) piece ∙ ap (λ t. l ++ 10 ∷ t) (joined_piece ls pending piece)
+joined_piece (l ∷ ls) pending piece = append_assoc l (10 ∷ stream_of ls pending) piece ∙ ap (λ t. l ++ 10 ∷ t) (joined_piece ls pending piece)
 
-joined_line : (lines : List (List ℕ)) (line rest : List ℕ) → joined lines (line ++ 10 ∷ rest) ≡ joined (lines ++ line ∷ []) rest
+joined_line : (lines : List (List ℕ)) (line rest : List ℕ) → stream_of lines (line ++ 10 ∷ rest) ≡ stream_of (lines ++ line ∷ []) rest
 joined_line [] line rest = refl
 joined_line (l ∷ ls) line rest = ap (λ t. l ++ 10 ∷ t) (joined_line ls line rest)
 
@@ -113,7 +113,7 @@ read_line acts new pending line rest e b r =
     let m = read_more acts new pending e r in
     record {
       lines = m.lines ++ line ∷ [];
-      heard = m.heard ∙ ap (joined m.lines) b.whole ∙ joined_line m.lines line rest;
+      heard = m.heard ∙ ap (stream_of m.lines) b.whole ∙ joined_line m.lines line rest;
       each = each_more m.lines line m.each (record { flat = b.flat; short = b.short });
     }
 

@@ -31,31 +31,31 @@ pub data Peal : Type 0 where
   Rung : Peal
 
 -- what the link sees of an act
-abbrev pub told : Act → List Event
-told (Tell e) = e ∷ []
-told (Moment t) = []
-told (Enter j a) = []
-told (Look j s) = []
-told (Hear b) = []
-told Ring = []
+abbrev pub link_events : Act → List Event
+link_events (Tell e) = e ∷ []
+link_events (Moment t) = []
+link_events (Enter j a) = []
+link_events (Look j s) = []
+link_events (Hear b) = []
+link_events Ring = []
 
 -- what the clock sees of it
-abbrev pub given : Act → List ℕ
-given (Tell e) = []
-given (Moment t) = t ∷ []
-given (Enter j a) = []
-given (Look j s) = []
-given (Hear b) = []
-given Ring = []
+abbrev pub clock_moments : Act → List ℕ
+clock_moments (Tell e) = []
+clock_moments (Moment t) = t ∷ []
+clock_moments (Enter j a) = []
+clock_moments (Look j s) = []
+clock_moments (Hear b) = []
+clock_moments Ring = []
 
 -- what the bell sees of it
-abbrev pub pealed : Act → List Peal
-pealed (Tell e) = []
-pealed (Moment t) = []
-pealed (Enter j a) = []
-pealed (Look j s) = []
-pealed (Hear b) = Answered b ∷ []
-pealed Ring = Rung ∷ []
+abbrev pub bell_peals : Act → List Peal
+bell_peals (Tell e) = []
+bell_peals (Moment t) = []
+bell_peals (Enter j a) = []
+bell_peals (Look j s) = []
+bell_peals (Hear b) = Answered b ∷ []
+bell_peals Ring = Rung ∷ []
 
 -- what was asked on a desk
 abbrev pub asked_at : ℕ → Act → List Asking
@@ -77,13 +77,13 @@ shown_at i Ring = []
 
 -- the link's talk, the clock's moments, and what the bell sees
 abbrev pub talk_of : List Act → List Event
-talk_of acts = flat_map told acts
+talk_of acts = flat_map link_events acts
 
 abbrev pub moments_of : List Act → List ℕ
-moments_of acts = flat_map given acts
+moments_of acts = flat_map clock_moments acts
 
 abbrev pub peals_of : List Act → List Peal
-peals_of acts = flat_map pealed acts
+peals_of acts = flat_map bell_peals acts
 
 -- what was asked on a desk, its entries, and what glances at it showed
 abbrev pub askings : ℕ → List Act → List Asking

@@ -7,7 +7,7 @@ use Rattle.office_view.specs.View.{View}
 use Rattle.options_machine.specs.Own.{holds, queues}
 use Rattle.options_machine.specs.Rules.{Rules}
 use Rattle.options_machine.specs.Run.{IsRun, after}
-use Rattle.options_machine.specs.Settle.{moved}
+use Rattle.options_machine.specs.Settle.{later_moment}
 use Rattle.options_machine.specs.declared.reply.Entry.{Entry}
 use Rattle.session.specs.Acts.{Act, Shown, askings, sights}
 
@@ -16,7 +16,7 @@ pub record Stands (sets : List Rules) (party : ℕ) (history : List Entry) (a : 
   pub rest : List Entry
   pub is : history ≡ a.before ++ a.entry ∷ rest
   pub asker : a.entry.request.party ≡ party
-  pub moment : a.entry.moment ≡ moved (after sets a.before).now a.handed
+  pub moment : a.entry.moment ≡ later_moment (after sets a.before).now a.handed
   pub seats : AreSeats (brings_seat a.entry.reply) a.seats
 
 -- where anything was asked

@@ -1,7 +1,7 @@
 -- What a session read: lines, and a rest.
 use Rattle.std.specs.Prelude.{◌≡◌, ℕ, ◌≤◌, List, [], flat_map, length}
 use Rattle.std.specs.List.{AllByRecursion}
-use Rattle.line_protocol.specs.Streams.{IsFlat, joined}
+use Rattle.line_protocol.specs.Streams.{IsFlat, stream_of}
 use Rattle.session_outside.specs.Talk.{Event, Heard, Silence, Ended, ReadFault, Wrote, WriteFault}
 use Rattle.session.specs.Acts.{Act, talk_of}
 use Rattle.session.specs.Session.{Session}
@@ -30,7 +30,7 @@ pub record IsLine (line : List ℕ) : Type 0 where
 pub record HasRead (acts : List Act) : Type 0 where
   pub lines : List (List ℕ)
   pub rest : List ℕ
-  pub heard : heard_of acts ≡ joined lines rest
+  pub heard : heard_of acts ≡ stream_of lines rest
   pub each : AllByRecursion IsLine lines
 
 -- each session heard lines and a rest

@@ -28,11 +28,11 @@ pub record Counted (test : Bool) (old new : ℕ) : Type 0 where
   pub stands : test ≡ false → new ≡ old
 
 -- the event of a read
-abbrev pub heard : Got → List ℕ → Event
-heard (Bytes n) buffer = Heard (take n buffer)
-heard End buffer = Ended
-heard Quiet buffer = Silence
-heard Failed buffer = ReadFault
+abbrev pub read_event : Got → List ℕ → Event
+read_event (Bytes n) buffer = Heard (take n buffer)
+read_event End buffer = Ended
+read_event Quiet buffer = Silence
+read_event Failed buffer = ReadFault
 
 abbrev pub IsWithin : Got → ℕ → Type 0
 IsWithin (Bytes n) room = (0 < n) × (n ≤ room)
@@ -53,6 +53,6 @@ is_quiet Quiet = true
 is_quiet Failed = false
 
 -- the event of a write, of which this many bytes were taken
-abbrev pub wrote : Result (Unit {0}) LinkFailed → List ℕ → ℕ → Event
-wrote (Ok u) piece taken = Wrote piece
-wrote (Err e) piece taken = WriteFault (take taken piece)
+abbrev pub write_event : Result (Unit {0}) LinkFailed → List ℕ → ℕ → Event
+write_event (Ok u) piece taken = Wrote piece
+write_event (Err e) piece taken = WriteFault (take taken piece)

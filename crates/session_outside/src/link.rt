@@ -1,6 +1,6 @@
 //! The link to a client.
 ghost use Rattle.std.specs.Prelude.{◌≡◌, ℕ, ◌<◌, ◌≤◌, [], ◌∷◌, List, length, is_err};
-ghost use Rattle.session_outside.specs.Talk.{Counted, Event, Follows, IsWithin, heard, is_failed, is_quiet, wrote};
+ghost use Rattle.session_outside.specs.Talk.{Counted, Event, Follows, IsWithin, read_event, is_failed, is_quiet, write_event};
 
 use thiserror::Error;
 
@@ -37,13 +37,13 @@ pub trait Link {
     fn read(&mut self, buffer: &mut [u8]) -> Got
         requires { 0 < length buffer.old }
         ensures within { IsWithin result (length buffer.old) }
-        ensures told { Follows tells self.old self.new (heard result buffer.new ∷ []) }
+        ensures told { Follows tells self.old self.new (read_event result buffer.new ∷ []) }
         ensures faults { Counted (is_failed result) (faults self.old) (faults self.new) }
         ensures quiets { Counted (is_quiet result) (quiets self.old) (quiets self.new) };
 
     /// Writes the whole piece, or fails, where some first bytes of it were taken.
     fn write(&mut self, piece: &[u8]) -> Result<(), LinkFailed>
-        ensures told { (taken : ℕ) × (taken ≤ length piece.now) × Follows tells self.old self.new (wrote result piece.now taken ∷ []) }
+        ensures told { (taken : ℕ) × (taken ≤ length piece.now) × Follows tells self.old self.new (write_event result piece.now taken ∷ []) }
         ensures faults { Counted (is_err result) (faults self.old) (faults self.new) }
         ensures quiets { quiets self.new ≡ quiets self.old };
 }

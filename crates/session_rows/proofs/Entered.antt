@@ -12,7 +12,7 @@ use Rattle.options_machine.specs.declared.reply.Reply.{Reply}
 use Rattle.options_machine.specs.declared.reply.Request.{Request}
 use Rattle.options_machine.specs.Own.{holds, is_entry_of, is_of_holding, is_of_queueing, is_some_of, own, queues, standing, standing_then}
 use Rattle.options_machine.specs.Run.{IsRun, after}
-use Rattle.options_machine.specs.Settle.{moved}
+use Rattle.options_machine.specs.Settle.{later_moment}
 use Rattle.options_machine.specs.Step.{set_asked}
 use Rattle.options_machine.proofs.Quits.{quit_leaves, standing-snoc}
 use Rattle.options_machine.proofs.Standings.{own_tells}
@@ -178,7 +178,7 @@ module _ (t u : Pass BookLaw Request Reply) (client : Client) (kind : Kind) (mom
         asker = party_is;
         client = refl;
         kind = refl;
-        moment = used_is ∙ ap (λ (l : BookLaw). moved (after l.sets before).now moment) law_is;
+        moment = used_is ∙ ap (λ (l : BookLaw). later_moment (after l.sets before).now moment) law_is;
         reply = refl;
         told = refl;
         place = place_is ∙ ap (λ (n : ℕ). n % 2 ^ 64) (sym (length-map (t.seen ++ between) entry_of));

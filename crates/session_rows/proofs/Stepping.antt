@@ -5,7 +5,7 @@ use Rattle.options_machine.specs.declared.reply.Reply.{Reply}
 use Rattle.options_machine.specs.declared.reply.Request.{Request}
 use Rattle.options_machine.specs.Rules.{Rules}
 use Rattle.options_machine.specs.Run.{AsksForSet, IsRun, after}
-use Rattle.options_machine.specs.Settle.{moved}
+use Rattle.options_machine.specs.Settle.{later_moment}
 use Rattle.options_machine.specs.State.{State, opening}
 use Rattle.options_machine.specs.Step.{step}
 use Rattle.options_machine.proofs.Counts.{count-cons}
@@ -29,7 +29,7 @@ grants-snoc (x ∷ xs) e =
 
 -- a step at a state that a run reaches
 module _ (sets : List Rules) (h : List Entry) (request : Request) (moment used : ℕ) (reply : Reply) (new : State)
-    (run : IsRun sets h) (fits : AsksForSet sets request) (stepped : (reply, new) ≡ step sets (after sets h) request moment) (used_is : used ≡ moved (after sets h).now moment) where
+    (run : IsRun sets h) (fits : AsksForSet sets request) (stepped : (reply, new) ≡ step sets (after sets h) request moment) (used_is : used ≡ later_moment (after sets h).now moment) where
   abbrev made : Entry
   made = record { request = request; moment = used; reply = reply }
 

@@ -5,7 +5,7 @@ use Rattle.options_machine.specs.declared.reply.Reply.{Reply}
 use Rattle.options_machine.specs.declared.reply.Request.{Request}
 use Rattle.options_machine.specs.Law.{AreSets}
 use Rattle.options_machine.specs.Run.{AsksForSet, IsRun, after}
-use Rattle.options_machine.specs.Settle.{moved}
+use Rattle.options_machine.specs.Settle.{later_moment}
 use Rattle.options_machine.specs.State.{set_at}
 use Rattle.turn_lock.specs.declared.kept.Entry as turn
 use Rattle.session_rows.specs.declared.book.BookLaw.{BookLaw}
@@ -37,7 +37,7 @@ pub record Runs (l : BookLaw) (h : List Call) : Type 0 where
 
 -- the moment to which settling brings the state after these calls
 abbrev pub used_at : BookLaw → List Call → ℕ → ℕ
-used_at l h moment = moved (after l.sets (entries_of h)).now moment
+used_at l h moment = later_moment (after l.sets (entries_of h)).now moment
 
 -- the book has the state after these calls
 abbrev pub Stands : LoggedBook → List Call → Type 0

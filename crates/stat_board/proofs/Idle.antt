@@ -7,7 +7,7 @@ use Rattle.options_machine.specs.declared.reply.Kind.TheVariants.{Look}
 use Rattle.options_machine.specs.declared.reply.Reply.{Reply}
 use Rattle.options_machine.specs.Rules.{Rules}
 use Rattle.options_machine.specs.Run.{after_entry}
-use Rattle.options_machine.specs.Settle.{moved}
+use Rattle.options_machine.specs.Settle.{later_moment}
 use Rattle.options_machine.specs.State.{State, opening}
 use Rattle.options_machine.proofs.Runs.{after-snoc}
 use Rattle.stat_board.specs.Fronts.{longer}
@@ -20,13 +20,13 @@ abbrev looked : ℕ → Client → ℕ → Reply → Entry
 looked party client moment reply = record { request = record { party = party; client = client; kind = Look }; moment = moment; reply = reply }
 
 look_stays : (now party : ℕ) (client : Client) (moment : ℕ) (reply : Reply)
-    → after_entry one_seat (record opening { now = now }) (looked party client moment reply) ≡ record opening { now = moved now moment }
+    → after_entry one_seat (record opening { now = now }) (looked party client moment reply) ≡ record opening { now = later_moment now moment }
 look_stays now party client moment reply = refl
 
 -- one look more
 pub idle_on : (list : List Entry) (party : ℕ) (client : Client) (moment : ℕ) (reply : Reply) (e : Entry) → e ≡ looked party client moment reply → IsIdle list → IsIdle (list ++ e ∷ [])
 idle_on list party client moment reply e is idle = (
-  moved idle.0 moment,
+  later_moment idle.0 moment,
   after-snoc one_seat opening list e ∙ (ap (λ (s : State). after_entry one_seat s e) idle.1 ∙ (ap (after_entry one_seat (record opening { now = idle.0 })) is ∙ look_stays idle.0 party client moment reply)),
 )
 

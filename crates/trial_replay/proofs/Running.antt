@@ -3,7 +3,7 @@ use Rattle.std.proofs.Common.{◌≡◌, ℕ, zero, suc, ◌+◌, ◌*◌, ◌<�
 use Rattle.options_machine.proofs.Moments.{step_now}
 use Rattle.options_machine.proofs.Runs.{after-snoc, run_more}
 use Rattle.options_machine.specs.Run.{AsksForSet, IsBelow, IsRun, after}
-use Rattle.options_machine.specs.Settle.{moved}
+use Rattle.options_machine.specs.Settle.{later_moment}
 use Rattle.options_machine.specs.State.{State, opening}
 use Rattle.options_machine.specs.Step.{set_asked, step}
 use Rattle.options_machine.specs.declared.reply.Kind.TheVariants.{Beat, Checkin, Checkout, Look}
@@ -52,7 +52,7 @@ first = record { run = tt; now = omega arith }
 
 next : (event : ℕ) → event ≤ 1000000 → Stands event → Stands (event + 1)
 next event few s =
-    let now : (after bench_sets (run_of (event + 1))).now ≡ moved (after bench_sets (run_of event)).now (10 * event)
+    let now : (after bench_sets (run_of (event + 1))).now ≡ later_moment (after bench_sets (run_of event)).now (10 * event)
     = ap (λ (t : State). t.now) (state_next event) ∙ step_now bench_sets (after bench_sets (run_of event)) (request_of event) (moment_of event) in
     record {
       run = rw run_next (run_more bench_sets opening (run_of event) (entry_behind (run_of event) event) s.run (record { later = s.now; within = omega arith; fits = event_asks event; reply = refl }));

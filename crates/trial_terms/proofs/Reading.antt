@@ -15,7 +15,7 @@ use Rattle.lic_text.specs.Lines.{Worded, fault_of, lines_from, lines_of, words_o
 use Rattle.lic_text.specs.declared.fault.TextFault.{TextFault}
 use Rattle.lic_text.proofs.Fronts.{at_words, none_left}
 use Rattle.feature_lines.specs.Licence.{licence_in, licence_of}
-use Rattle.feature_lines.specs.Line.{count_of, granted, is_word, judged, or_fault, said_of}
+use Rattle.feature_lines.specs.Line.{count_of, line_with_terms, is_word, said_or_fault, or_fault, said_of}
 use Rattle.feature_lines.specs.declared.fault.LicenceFault.{LicenceFault}
 use Rattle.feature_lines.specs.declared.fault.LicenceFault.TheVariants.{BadCount}
 use Rattle.feature_lines.specs.declared.line.FeatureLine.{FeatureLine}
@@ -24,7 +24,7 @@ use Rattle.feature_lines.specs.declared.line.Said.TheVariants.{Feature as Grants
 use Rattle.lic_types.specs.declared.day.Expiry.TheVariants.{Never}
 use Rattle.lic_types.specs.Name.{is_name_byte}
 use Rattle.options_text.specs.Options.{options_of}
-use Rattle.options_text.specs.Texts.{closed, spaced}
+use Rattle.options_text.specs.Texts.{closed_text, spaced}
 use Rattle.options_text.proofs.Closings.{continued_behind, ends_other, ends_step, no_return}
 use Rattle.options_text.proofs.Tokens.{IsToken, closed_free, words_closed}
 use Rattle.trial_terms.specs.Terms.{licence_text, no_options, trial_pool}
@@ -81,8 +81,8 @@ module _ (n : ℕ) (low : n < 2 ^ 64) where
   ends : is_continued (licence_text n) ≡ false
   ends = continued_behind (codes "FEATURE trial v 1.0 permanent") (decimal n) ∙ digits_end (decimal n) digits
 
-  closed_is : closed (spaced (codes "FEATURE") words) ≡ licence_text n
-  closed_is = ap closed text_is ∙ rw ends refl
+  closed_is : closed_text (spaced (codes "FEATURE") words) ≡ licence_text n
+  closed_is = ap closed_text text_is ∙ rw ends refl
 
   all_tokens : AllByRecursion IsToken words
   all_tokens = (record { some = refl; each = refl }, (record { some = refl; each = refl }, (record { some = refl; each = refl }, (record { some = refl; each = refl }, (token, tt)))))
@@ -159,7 +159,7 @@ module _ (n : ℕ) (low : n < 2 ^ 64) (few : n ≤ 65535) where
       rw (word, decimal_back n low, fits) refl
 
   said : said_of 1 (codes "FEATURE" ∷ words n low) ≡ Ok (Grants (line_said n))
-  said = ap (λ (o : Option ℕ). granted 1 true (codes "trial") (codes "v") (or_fault (BadCount 1) o (λ count. Ok (record { version = record { key = 1000000000 }; version_text = codes "1.0"; expiry = Never; count = count })))) count_is
+  said = ap (λ (o : Option ℕ). line_with_terms 1 true (codes "trial") (codes "v") (or_fault (BadCount 1) o (λ count. Ok (record { version = record { key = 1000000000 }; version_text = codes "1.0"; expiry = Never; count = count })))) count_is
 
   pub short : length (licence_text n) ≤ 8192
   short =
@@ -177,8 +177,8 @@ module _ (n : ℕ) (low : n < 2 ^ 64) (few : n ≤ 65535) where
   lines_are : lines_of (licence_text n) ≡ Ok (1, codes "FEATURE" ∷ words n low) ∷ []
   lines_are = ap (lines_from 1) physical ∙ one_line (licence_text n) (codes "FEATURE" ∷ words n low) refl (ends n low) short (says n low) refl
 
-  judged_is : map judged (lines_of (licence_text n)) ≡ Ok (Grants (line_said n)) ∷ []
-  judged_is = ap (map judged) lines_are ∙ ap (λ (said : Result Said LicenceFault). said ∷ []) said
+  judged_is : map said_or_fault (lines_of (licence_text n)) ≡ Ok (Grants (line_said n)) ∷ []
+  judged_is = ap (map said_or_fault) lines_are ∙ ap (λ (said : Result Said LicenceFault). said ∷ []) said
 
   -- one line of one pool is read
   licence_is : 0 < n → licence_in (Ok (Grants (line_said n)) ∷ []) ≡ Ok (record { pools = trial_pool n ∷ []; notes = [] })

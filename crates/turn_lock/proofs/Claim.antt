@@ -12,7 +12,7 @@ use Rattle.turn_lock.specs.declared.view.Stage.TheVariants.{Idle}
 use Rattle.turn_lock.specs.declared.view.View.{View}
 use Rattle.turn_lock.specs.Passes.{Pass}
 use Rattle.turn_lock.specs.Rule.{is_out, Ruled}
-use Rattle.turn_lock.specs.Steps.{seated, claimed}
+use Rattle.turn_lock.specs.Steps.{seated_view, claims_ticket}
 use Rattle.turn_lock.proofs.Keeps.{reload}
 use Rattle.turn_lock.proofs.Ticket.{draws}
 
@@ -32,8 +32,8 @@ module _ {V L Q A : Type 0} (law_of : V → L) (party : Q → ℕ) (run : L → 
   abbrev Rule : St → Type 0
   Rule = Ruled law_of party run stands law n
 
-  pub claims : (slots id old new : ℕ) (me : M) (p : P) → new ≡ (old + 1) % 2 ^ 64 → me ≡ (seated p Idle, [])
-      → Allows Rule slots id me 1 (λ x. either (x == old) new x) (claimed (step slots 1 old new none) me)
+  pub claims : (slots id old new : ℕ) (me : M) (p : P) → new ≡ (old + 1) % 2 ^ 64 → me ≡ (seated_view p Idle, [])
+      → Allows Rule slots id me 1 (λ x. either (x == old) new x) (claims_ticket (step slots 1 old new none) me)
   claims slots id old new me p next e s r wide at small = let is : me.0.role ≡ Party p.number = ap (λ (x : M). x.0.role) e in let idle : me.0.stage ≡ Idle = ap (λ (x : M). x.0.stage) e in
       dite (ℕ_discrete (get_or s.words 1 0) old)
       (λ hit. let d = draws law_of party run stands law n slots id me p e s r wide at small in

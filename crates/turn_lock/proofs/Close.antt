@@ -17,7 +17,7 @@ use Rattle.turn_lock.specs.Entries.{IsPrefix, own}
 use Rattle.turn_lock.specs.Passes.{Pass, Closes}
 use Rattle.pass_roles.specs.Roles.{weigh, number_of}
 use Rattle.turn_lock.specs.Rule.{has_entry, entries_in, is_out, weight, Standing, Fits, HasNumber, IsIn, IsOut, Ruled}
-use Rattle.turn_lock.specs.Steps.{joined_of, seated, IsGathered}
+use Rattle.turn_lock.specs.Steps.{joined_of, seated_view, IsGathered}
 use Rattle.pass_roles.proofs.Members.{total_none, total_two, at_append, at_unmap, at_one, index_of, all_at, at_all, at_inside}
 use Rattle.turn_lock.proofs.Apart.{with_number, number_append, number_map, found, someone, it_or_not}
 use Rattle.turn_lock.proofs.Parts.{sums_same, parts_whole}
@@ -64,13 +64,13 @@ module _ {V L Q A : Type 0} (law_of : V → L) (party : Q → ℕ) (run : L → 
   idle_entry history made maker_seat owner j d v Spent still f same = ap has_entry f.idle
 
   abbrev kept_of : P → Joined Q A
-  kept_of p = joined_of (seated p Idle)
+  kept_of p = joined_of (seated_view p Idle)
 
   ends : (id count : ℕ) (slot : Option V) (first : P) (done : List P) (ws : List ℕ) (xs : List (Option V)) → 1 + length done ≡ n
-      → Final (Seen Rule id (record (seated first Idle) { joined = map kept_of done })) ws xs → get_elem? ws 2 ≡ some count → get_elem? xs 0 ≡ some slot
+      → Final (Seen Rule id (record (seated_view first Idle) { joined = map kept_of done })) ws xs → get_elem? ws 2 ≡ some count → get_elem? xs 0 ≡ some slot
       → (x : V) × (slot ≡ Some x) × (law_of x ≡ law) × Closes party run stands law (done ++ first ∷ []) x count
   ends id count slot first done ws xs whole final word at_slot =
-      let s = final.0 in let r : Rule s = final.1.0 in let v : W = record (seated first Idle) { joined = map kept_of done } in
+      let s = final.0 in let r : Rule s = final.1.0 in let v : W = record (seated_view first Idle) { joined = map kept_of done } in
       let at : get_elem? s.views id ≡ some v = final.1.1 in
       let known : Standing party r.history law r.made r.maker_seat r.owner id first.number v = knows law_of party run stands law n s r id first.number v at refl in
       let heavy : weight n v ≡ n = (let l = length-map done kept_of in omega arith) in
@@ -139,7 +139,7 @@ module _ {V L Q A : Type 0} (law_of : V → L) (party : Q → ℕ) (run : L → 
       → Final (Seen Rule id m.0) ws xs → get_elem? ws 2 ≡ some count → get_elem? xs 0 ≡ some slot → (x : V) × (slot ≡ Some x) × (law_of x ≡ law) × Closes party run stands law passes x count
   closes id count slot passes m ws xs whole got final word at_slot =
       let first : P = got.0 in let done : List P = got.1 in
-      let e : m.0 ≡ record (seated first Idle) { joined = map kept_of done } = ap (λ (z : M). z.0) got.3 in
+      let e : m.0 ≡ record (seated_view first Idle) { joined = map kept_of done } = ap (λ (z : M). z.0) got.3 in
       let t = ends id count slot first done ws xs (let l = length-append done (first ∷ []) in let k : length passes ≡ length (done ++ first ∷ []) = ap length got.2 in omega arith)
       (subst (λ (z : W). Final (Seen Rule id z) ws xs) e final) word at_slot in
       (t.0, t.1, t.2, subst (λ (z : List P). Closes party run stands law z t.0 count) (sym got.2) t.3)

@@ -13,7 +13,7 @@ use Rattle.turn_lock.specs.declared.view.Stage.TheVariants.{Out, Counted}
 use Rattle.turn_lock.specs.declared.view.View.{View}
 use Rattle.turn_lock.specs.Passes.{Pass}
 use Rattle.turn_lock.specs.Rule.{has_ticket, has_entry, is_out, weight, tickets_in, entries_in, Stays, Fits, Ruled}
-use Rattle.turn_lock.specs.Steps.{seated, longer, counted}
+use Rattle.turn_lock.specs.Steps.{seated_view, longer, counted}
 use Rattle.pass_roles.proofs.Members.{total_set, total_none, each_set, set_at}
 use Rattle.turn_lock.proofs.Stays.{stays_longer, entry_has}
 use Rattle.turn_lock.proofs.Owned.{own_other, own_mine}
@@ -54,7 +54,7 @@ module _ {V L Q A : Type 0} (law_of : V → L) (party : Q → ℕ) (run : L → 
       }
   counts_known history e made maker_seat owner p id j d Spent by at other f = record { idle = f.idle }
 
-  pub counts_entry : (slots id : ℕ) (me : M) (p : P) (t : ℕ) (c : List (ℕ × Option V)) (e : Entry Q A) → me ≡ (seated p (Out t), c) → run p.law (p.seen ++ e ∷ []) → party e.request ≡ p.number
+  pub counts_entry : (slots id : ℕ) (me : M) (p : P) (t : ℕ) (c : List (ℕ × Option V)) (e : Entry Q A) → me ≡ (seated_view p (Out t), c) → run p.law (p.seen ++ e ∷ []) → party e.request ≡ p.number
       → Allows Rule slots id me 2 (λ x. x) (counted (e ∷ []) (step slots 2 0 0 none) me)
   counts_entry slots id me p t c e eq ran by s r _ at _ = let is : me.0.role ≡ Party p.number = ap (λ (x : M). x.0.role) eq in let out : me.0.stage ≡ Out t = ap (λ (x : M). x.0.stage) eq in
       let seen_is : me.0.seen ≡ p.seen = ap (λ (x : M). x.0.seen) eq in let k = stage_is law_of party run stands law n s r id me.0 (Out t) at out in let known = knows law_of party run stands law n s r id p.number me.0 at is in let his : r.holder r.served ≡ id = ap r.holder (sym k.0) ∙ k.2 in
@@ -105,7 +105,7 @@ module _ {V L Q A : Type 0} (law_of : V → L) (party : Q → ℕ) (run : L → 
           value = inr (not_home law_of party run stands law n s r id me.0 at (ap is_out out), (id, w, set_at s.views id me.0 w at, refl));
         },
         λ p' t' c' eq'. let same : t ≡ t' = (let q : Out t ≡ Out t' = sym out ∙ ap (λ (x : M). x.0.stage) eq' in cc) in (
-          ap (λ (z : M). let a : W = record z.0 { stage = Counted t; seen = z.0.seen ++ e ∷ []; mine = z.0.mine ++ e ∷ [] } in (a, z.1)) eq' ∙ ap (λ (z : ℕ). let a : W = seated (longer p' (e ∷ [])) (Counted z) in (a, c')) same,
+          ap (λ (z : M). let a : W = record z.0 { stage = Counted t; seen = z.0.seen ++ e ∷ []; mine = z.0.mine ++ e ∷ [] } in (a, z.1)) eq' ∙ ap (λ (z : ℕ). let a : W = seated_view (longer p' (e ∷ [])) (Counted z) in (a, c')) same,
           r.serving_is ∙ (ap (λ (z : ℕ). z % 2 ^ 64) (sym all_served) ∙ ap (λ (x : List (Entry Q A)). length x % 2 ^ 64) (sym k.3 ∙ ap (λ (x : M). x.0.seen) eq')),
         ),
       )

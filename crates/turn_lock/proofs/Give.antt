@@ -8,7 +8,7 @@ use Rattle.turn_lock.specs.declared.view.Stage.TheVariants.{Counted, Home}
 use Rattle.turn_lock.specs.declared.view.View.{View}
 use Rattle.turn_lock.specs.Passes.{Pass}
 use Rattle.turn_lock.specs.Rule.{is_out, Ruled}
-use Rattle.turn_lock.specs.Steps.{seated, gave}
+use Rattle.turn_lock.specs.Steps.{seated_view, gave}
 use Rattle.pass_roles.proofs.Members.{each_set}
 use Rattle.turn_lock.proofs.Keeps.{restage, knows, stage_is, alone, not_home, same_words}
 
@@ -32,10 +32,10 @@ module _ {V L Q A : Type 0} (law_of : V → L) (party : Q → ℕ) (run : L → 
   Rule = Ruled law_of party run stands law n
 
   gives_from : (slots id : ℕ) (p : P) (t : ℕ) (x : Option V) (y : V) → x ≡ Some y → stands y p.seen → law_of y ≡ p.law
-      → Allows Rule slots id (seated p (Counted t), (0, x) ∷ []) 2 (λ z. z) (gave (step slots 2 0 0 none) (seated p (Counted t), (0, x) ∷ []))
-  gives_from slots id p t x y here stood law_is s r _ at _ = let v : W = seated p (Counted t) in
+      → Allows Rule slots id (seated_view p (Counted t), (0, x) ∷ []) 2 (λ z. z) (gave (step slots 2 0 0 none) (seated_view p (Counted t), (0, x) ∷ []))
+  gives_from slots id p t x y here stood law_is s r _ at _ = let v : W = seated_view p (Counted t) in
       let k = stage_is law_of party run stands law n s r id v (Counted t) at refl in let known = knows law_of party run stands law n s r id p.number v at refl in let his : r.holder r.served ≡ id = ap r.holder (sym k.0) ∙ k.2 in
-      let w : W = seated p (Home t) in (
+      let w : W = seated_view p (Home t) in (
         w,
         gives,
         tt,
@@ -50,9 +50,9 @@ module _ {V L Q A : Type 0} (law_of : V → L) (party : Q → ℕ) (run : L → 
               each_set (λ (j : ℕ) (d : W). is_out d.stage ≡ false) s.views id w refl (alone law_of party run stands law n s r id his),
             )),
         λ p' t' x' e'. let same : t ≡ t' = (let q : Counted t ≡ Counted t' = ap (λ (z : M). z.0.stage) e' in cc) in
-            ap (λ (z : M). let a : W = record z.0 { stage = Home t } in let c : List (ℕ × Option V) = [] in (a, c)) e' ∙ ap (λ (z : ℕ). let a : W = seated p' (Home z) in let c : List (ℕ × Option V) = [] in (a, c)) same,
+            ap (λ (z : M). let a : W = record z.0 { stage = Home t } in let c : List (ℕ × Option V) = [] in (a, c)) e' ∙ ap (λ (z : ℕ). let a : W = seated_view p' (Home z) in let c : List (ℕ × Option V) = [] in (a, c)) same,
       )
 
-  pub gives_back : (slots id : ℕ) (me : M) (p : P) (t : ℕ) (x : Option V) (y : V) → me ≡ (seated p (Counted t), (0, x) ∷ []) → x ≡ Some y → stands y p.seen → law_of y ≡ p.law
+  pub gives_back : (slots id : ℕ) (me : M) (p : P) (t : ℕ) (x : Option V) (y : V) → me ≡ (seated_view p (Counted t), (0, x) ∷ []) → x ≡ Some y → stands y p.seen → law_of y ≡ p.law
       → Allows Rule slots id me 2 (λ z. z) (gave (step slots 2 0 0 none) me)
   gives_back slots id me p t x y e here stood law_is = subst (λ (m : M). Allows Rule slots id m 2 (λ z. z) (gave (step slots 2 0 0 none) m)) (sym e) (gives_from slots id p t x y here stood law_is)

@@ -17,7 +17,7 @@ use Rattle.turn_lock.specs.Entries.{IsPrefix, own}
 use Rattle.turn_lock.specs.Passes.{Pass}
 use Rattle.pass_roles.specs.Roles.{weigh, number_of}
 use Rattle.turn_lock.specs.Rule.{has_ticket, has_entry, is_out, weight, tickets_in, entries_in, Stays, Fits, HasNumber, HasSeen, IsLongest, Ruled}
-use Rattle.turn_lock.specs.Steps.{spent, joined_of, both}
+use Rattle.turn_lock.specs.Steps.{spent_view, joined_of, both}
 use Rattle.pass_roles.proofs.Members.{total_set, each_set, set_at, at_append, at_behind}
 use Rattle.turn_lock.proofs.Apart.{with_number, number_cons, found, once_in_both}
 use Rattle.turn_lock.proofs.Owners.{moved, moved_here, moved_else}
@@ -85,10 +85,10 @@ module _ {V L Q A : Type 0} (law_of : V → L) (party : Q → ℕ) (run : L → 
   )
 
   joined_longest : (views : List W) (id gone : ℕ) (v w : W) → get_elem? views id ≡ some v → get_elem? views gone ≡ some w → gone ≢ id → (h : List (Entry Q A)) (j : ℕ) (d : W) → get_elem? views j ≡ some d → HasSeen h d
-      → IsLongest h (set (set views id (both v w)) gone spent)
+      → IsLongest h (set (set views id (both v w)) gone spent_view)
   joined_longest views id gone v w at at_w apart h j d at_d seen =
-      let b : W = both v w in let views' : List W = set (set views id b) gone spent in
-      let at_b : get_elem? views' id ≡ some b = set_else (set views id b) gone id spent (λ z. apart (sym z)) ∙ set_at views id v b at in
+      let b : W = both v w in let views' : List W = set (set views id b) gone spent_view in
+      let at_b : get_elem? views' id ≡ some b = set_else (set views id b) gone id spent_view (λ z. apart (sym z)) ∙ set_at views id v b at in
       dite (ℕ_discrete j gone)
       (λ e. let is : d ≡ w = some-injective d w (sym at_d ∙ (ap (get_elem? views) e ∙ at_w)) in inr (
         id,
@@ -105,11 +105,11 @@ module _ {V L Q A : Type 0} (law_of : V → L) (party : Q → ℕ) (run : L → 
         ⊎_elim inl
             (λ (t : (i : ℕ) × (y : Joined Q A) × (get_elem? v.joined i ≡ some y) × (y.seen ≡ h)). let z = at_behind (joined_of w ∷ w.joined) v.joined t.0 t.1 t.2 in inr (z.0, t.1, z.1, t.3)) (subst (HasSeen h) is seen),
       ))
-      (λ else. inr (j, d, set_else (set views id b) gone j spent other ∙ (set_else views id j b else ∙ at_d), seen)))
+      (λ else. inr (j, d, set_else (set views id b) gone j spent_view other ∙ (set_else views id j b else ∙ at_d), seen)))
 
-  pub joins : (id gone : ℕ) (v w : W) (p q : ℕ) → v.role ≡ Party p → w.role ≡ Party q → v.stage ≡ Idle → w.stage ≡ Idle → Joins Rule id v gone w (both v w) spent
+  pub joins : (id gone : ℕ) (v w : W) (p q : ℕ) → v.role ≡ Party p → w.role ≡ Party q → v.stage ≡ Idle → w.stage ≡ Idle → Joins Rule id v gone w (both v w) spent_view
   joins id gone v w p q is_v is_w idle_v idle_w s r at apart at' =
-      let b : W = both v w in let none : W = spent in
+      let b : W = both v w in let none : W = spent_view in
       let at_w : get_elem? s.views gone ≡ some w = sym (set_else s.views id gone b apart) ∙ at' in
       let kv = knows law_of party run stands law n s r id p v at is_v in let kw = knows law_of party run stands law n s r gone q w at_w is_w in
       let owner' : ℕ → ℕ = moved r.owner gone id in

@@ -6,7 +6,7 @@ use Rattle.pass_roles.specs.declared.role.Role.TheVariants.{Party}
 use Rattle.turn_lock.specs.declared.view.Stage.TheVariants.{Idle}
 use Rattle.turn_lock.specs.declared.view.View.{View}
 use Rattle.turn_lock.specs.Passes.{LockId, Pass}
-use Rattle.turn_lock.specs.Steps.{seated, joined_of, both, knows, pass_at, RestsAs, IsAtRest, the_first, maker, dealt, newcomer}
+use Rattle.turn_lock.specs.Steps.{seated_view, joined_of, both, knows, pass_at, RestsAs, IsAtRest, the_first, maker, dealt_view, newcomer}
 
 module _ {S : Type 0} where
   pub held : (c : List (ℕ × S)) (k : ℕ) (x : S) (t : List (ℕ × S)) → c ≡ (k, x) ∷ t → c ≡ (k, x) ∷ rest c
@@ -22,7 +22,7 @@ same_some o x y p q = cc
 module _ {L Q A : Type 0} where
   -- the view of the last pass, with the others joined into it
   abbrev pub gathered : Pass L Q A → List (Pass L Q A) → View L Q A
-  gathered first done = record (seated first Idle) { joined = map (λ p. joined_of (seated p Idle)) done }
+  gathered first done = record (seated_view first Idle) { joined = map (λ p. joined_of (seated_view p Idle)) done }
 
   -- the pass that an idle badge makes
   pub is_pass : (lock : LockId) (number : ℕ) (views : List (View L Q A)) (some : 0 < length (knows views).law) (p : Pass L Q A) → RestsAs p views → lock ≡ p.lock → number ≡ p.number → pass_at lock number views some ≡ p
@@ -42,14 +42,14 @@ module _ {S L Q A : Type 0} where
 
   -- the seat that an idle badge became
   pub sits_as : (views old : List (View L Q A)) (m : Me S (View L Q A)) (p q : Pass L Q A) → RestsAs p old → p ≡ q → views ≡ old → views ≡ m.0 ∷ [] → m.1 ≡ [] → IsAtRest q m
-  sits_as views old m p q e same is v none = let w : m.0 ≡ seated q Idle = ap knows (sym v ∙ (is ∙ (e ∙ ap (λ (z : Pass L Q A). seated z Idle ∷ []) same))) in λ i. (w i, none i)
+  sits_as views old m p q e same is v none = let w : m.0 ≡ seated_view q Idle = ap knows (sym v ∙ (is ∙ (e ∙ ap (λ (z : Pass L Q A). seated_view z Idle ∷ []) same))) in λ i. (w i, none i)
 
   -- the badge that an idle seat became
   pub badge_of : (views : List (View L Q A)) (m : Me S (View L Q A)) (p : Pass L Q A) → IsAtRest p m → views ≡ m.0 ∷ [] → RestsAs p views
   badge_of views m p e v = v ∙ ap (λ (z : Me S (View L Q A)). z.0 ∷ []) e
 
-  pub dealt_on : (m m' : Me S (View L Q A)) (l : L) (i : ℕ) → m ≡ (maker l i, []) → m' ≡ (dealt m.0, m.1) → m' ≡ (maker l (i + 1), [])
-  dealt_on m m' l i e f = f ∙ ap (λ (z : Me S (View L Q A)). let w : View L Q A = dealt z.0 in (w, z.1)) e
+  pub dealt_on : (m m' : Me S (View L Q A)) (l : L) (i : ℕ) → m ≡ (maker l i, []) → m' ≡ (dealt_view m.0, m.1) → m' ≡ (maker l (i + 1), [])
+  dealt_on m m' l i e f = f ∙ ap (λ (z : Me S (View L Q A)). let w : View L Q A = dealt_view z.0 in (w, z.1)) e
 
   pub came_new : (m m' : Me S (View L Q A)) (l : L) (lock : LockId) (i : ℕ) → m ≡ (maker l i, []) → m' ≡ (newcomer m.0, []) → IsAtRest record { lock = lock; number = i; law = l; seen = []; mine = [] } m'
   came_new m m' l lock i e f = f ∙ ap (λ (z : Me S (View L Q A)). let w : View L Q A = newcomer z.0 in let c : List (ℕ × S) = [] in (w, c)) e

@@ -14,7 +14,7 @@ use Rattle.turn_lock.specs.declared.view.View.{View}
 use Rattle.turn_lock.specs.Passes.{Pass}
 use Rattle.pass_roles.specs.Roles.{weigh, made_of}
 use Rattle.turn_lock.specs.Rule.{is_out, weight, tickets_in, entries_in, Stays, Making, Fits, HasSeen, IsIn, IsOut, Ruled}
-use Rattle.turn_lock.specs.Steps.{dealt, newcomer}
+use Rattle.turn_lock.specs.Steps.{dealt_view, newcomer}
 use Rattle.pass_roles.proofs.Members.{total_set, total_snoc, each_set, each_snoc, set_at, at_inside}
 use Rattle.turn_lock.proofs.Owners.{put, put_here, put_else}
 use Rattle.turn_lock.proofs.Keeps.{kept_set, longest_set, value_stays}
@@ -60,10 +60,10 @@ module _ {V L Q A : Type 0} (law_of : V → L) (party : Q → ℕ) (run : L → 
       (λ (i : IsIn law_of stands law history homes views). inl (i.0, i.1, i.2, i.3, each_snoc (λ (j : ℕ) (d : W). is_out d.stage ≡ false) views w away i.4))
       (λ (o : IsOut homes views). inr (o.0, (o.1.0, o.1.1, at_longer views (w ∷ []) o.1.0 o.1.1 o.1.2, o.1.3))) value
 
-  pub deals : (id : ℕ) (v : W) (m : ℕ) → v.role ≡ Maker m → m < n → Splits Rule id v (dealt v) (newcomer v)
+  pub deals : (id : ℕ) (v : W) (m : ℕ) → v.role ≡ Maker m → m < n → Splits Rule id v (dealt_view v) (newcomer v)
   deals id v m is room s r at =
       let known : Making party r.history law r.made r.maker_seat r.owner id m v = subst (λ (x : Role). Fits party r.history law r.made r.maker_seat r.owner id v x) is (r.each id v at).0 in
-      let last : ℕ = length s.views in let w : W = dealt v in let x : W = newcomer v in
+      let last : ℕ = length s.views in let w : W = dealt_view v in let x : W = newcomer v in
       let m_is : made_of v.role ≡ r.made = ap made_of is ∙ known.made_is in
       let w_role : w.role ≡ Maker (r.made + 1) = ap (λ (k : ℕ). Maker (k + 1)) m_is in
       let x_role : x.role ≡ Party r.made = ap Party m_is in

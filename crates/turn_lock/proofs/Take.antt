@@ -11,7 +11,7 @@ use Rattle.turn_lock.specs.declared.view.View.{View}
 use Rattle.turn_lock.specs.Entries.{IsPrefix, own}
 use Rattle.turn_lock.specs.Passes.{Pass}
 use Rattle.turn_lock.specs.Rule.{has_ticket, has_entry, is_out, Ruled}
-use Rattle.turn_lock.specs.Steps.{seated, shown, took}
+use Rattle.turn_lock.specs.Steps.{seated_view, pass_with_seen, took}
 use Rattle.pass_roles.proofs.Members.{set_at}
 use Rattle.turn_lock.proofs.Keeps.{restage, knows, stage_is, is_in, same_words}
 
@@ -34,7 +34,7 @@ module _ {V L Q A : Type 0} (law_of : V → L) (party : Q → ℕ) (run : L → 
   abbrev Rule : St → Type 0
   Rule = Ruled law_of party run stands law n
 
-  pub takes_out : (slots id : ℕ) (me : M) (p : P) (t : ℕ) → me ≡ (seated p (Turn t), []) → Allows Rule slots id me 2 (λ x. x) (took law_of party run stands (step slots 2 0 0 none) me)
+  pub takes_out : (slots id : ℕ) (me : M) (p : P) (t : ℕ) → me ≡ (seated_view p (Turn t), []) → Allows Rule slots id me 2 (λ x. x) (took law_of party run stands (step slots 2 0 0 none) me)
   takes_out slots id me p t e s r _ at _ = let is : me.0.role ≡ Party p.number = ap (λ (x : M). x.0.role) e in let turn : me.0.stage ≡ Turn t = ap (λ (x : M). x.0.stage) e in
       let k = stage_is law_of party run stands law n s r id me.0 (Turn t) at turn in let known = knows law_of party run stands law n s r id p.number me.0 at is in let his : r.holder r.served ≡ id = ap r.holder (sym k.0) ∙ k.2 in
       let i = is_in law_of party run stands law n s r id me.0 at his (ap is_out turn) in let w : W = record me.0 { stage = Out t; seen = r.history } in (
@@ -52,7 +52,7 @@ module _ {V L Q A : Type 0} (law_of : V → L) (party : Q → ℕ) (run : L → 
               i.0,
               r.history,
               ap (λ (z : M). let x : W = record z.0 { stage = Out t; seen = r.history } in let c : List (ℕ × Option V) = (0, Some i.0) ∷ z.1 in (x, c)) e'
-                  ∙ ap (λ (z : ℕ). let x : W = seated (shown p' r.history) (Out z) in let c : List (ℕ × Option V) = (0, Some i.0) ∷ [] in (x, c)) same_t,
+                  ∙ ap (λ (z : ℕ). let x : W = seated_view (pass_with_seen p' r.history) (Out z) in let c : List (ℕ × Option V) = (0, Some i.0) ∷ [] in (x, c)) same_t,
               (
                 i.2,
                 subst (λ (z : L). run z r.history) same_l r.runs,

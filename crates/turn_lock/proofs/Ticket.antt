@@ -9,7 +9,7 @@ use Rattle.turn_lock.specs.declared.view.Stage.TheVariants.{Idle, Waiting}
 use Rattle.turn_lock.specs.declared.view.View.{View}
 use Rattle.turn_lock.specs.Passes.{Pass}
 use Rattle.turn_lock.specs.Rule.{has_ticket, has_entry, is_out, Ruled}
-use Rattle.turn_lock.specs.Steps.{seated, drew}
+use Rattle.turn_lock.specs.Steps.{seated_view, drew}
 use Rattle.turn_lock.proofs.Owners.{put, put_here}
 use Rattle.turn_lock.proofs.Stays.{stays_drawn}
 use Rattle.turn_lock.proofs.Keeps.{restage, knows, value_stays}
@@ -33,7 +33,7 @@ module _ {V L Q A : Type 0} (law_of : V → L) (party : Q → ℕ) (run : L → 
   abbrev Rule : St → Type 0
   Rule = Ruled law_of party run stands law n
 
-  pub draws : (slots id : ℕ) (me : M) (p : P) → me ≡ (seated p Idle, []) → Allows Rule slots id me 1 (λ x. (x + 1) % 2 ^ 64) (drew (step slots 1 1 0 none) me)
+  pub draws : (slots id : ℕ) (me : M) (p : P) → me ≡ (seated_view p Idle, []) → Allows Rule slots id me 1 (λ x. (x + 1) % 2 ^ 64) (drew (step slots 1 1 0 none) me)
   draws slots id me p e s r _ at _ = let is : me.0.role ≡ Party p.number = ap (λ (x : M). x.0.role) e in let staged : me.0.stage ≡ Idle = ap (λ (x : M). x.0.stage) e in let known = knows law_of party run stands law n s r id p.number me.0 at is in let wide = r.wide in (
     record me.0 { stage = Waiting r.drawn },
     keeps,

@@ -22,17 +22,17 @@ module _ {L Q A : Type 0} where
   abbrev pub maker : L → ℕ → View L Q A
   maker l m = record { law = l ∷ []; role = Maker m; stage = Idle; seen = []; mine = []; joined = [] }
 
-  abbrev pub spent : View L Q A
-  spent = record { law = []; role = Spent; stage = Idle; seen = []; mine = []; joined = [] }
+  abbrev pub spent_view : View L Q A
+  spent_view = record { law = []; role = Spent; stage = Idle; seen = []; mine = []; joined = [] }
 
   -- what a badge knows, or nothing
   abbrev pub knows : List (View L Q A) → View L Q A
-  knows [] = spent
+  knows [] = spent_view
   knows (v ∷ vs) = v
 
   -- a split leaves the maker with this
-  abbrev pub dealt : View L Q A → View L Q A
-  dealt v = record v { role = Maker (made_of v.role + 1) }
+  abbrev pub dealt_view : View L Q A → View L Q A
+  dealt_view v = record v { role = Maker (made_of v.role + 1) }
 
   -- and the new seat with this
   abbrev pub newcomer : View L Q A → View L Q A
@@ -46,12 +46,12 @@ module _ {L Q A : Type 0} where
   both v w = record v { joined = joined_of w ∷ (w.joined ++ v.joined) }
 
   -- the view of a pass at a stage of its turn
-  abbrev pub seated : Pass L Q A → Stage → View L Q A
-  seated p st = record { law = p.law ∷ []; role = Party p.number; stage = st; seen = p.seen; mine = p.mine; joined = [] }
+  abbrev pub seated_view : Pass L Q A → Stage → View L Q A
+  seated_view p st = record { law = p.law ∷ []; role = Party p.number; stage = st; seen = p.seen; mine = p.mine; joined = [] }
 
   -- the pass, once it has seen this history
-  abbrev pub shown : Pass L Q A → List (Entry Q A) → Pass L Q A
-  shown p h = record p { seen = h }
+  abbrev pub pass_with_seen : Pass L Q A → List (Entry Q A) → Pass L Q A
+  pass_with_seen p h = record p { seen = h }
 
   -- the pass, once these entries were counted as its own
   abbrev pub longer : Pass L Q A → List (Entry Q A) → Pass L Q A
@@ -63,47 +63,47 @@ module _ {L Q A : Type 0} where
 
   -- the badge is that of a seat with no ticket
   abbrev pub RestsAs : Pass L Q A → List (View L Q A) → Type 0
-  RestsAs p views = views ≡ seated p Idle ∷ []
+  RestsAs p views = views ≡ seated_view p Idle ∷ []
 
 module _ {S L Q A : Type 0} where
   -- the seat has no ticket, and nothing of the table is out with it
   abbrev pub IsAtRest : Pass L Q A → Me S (View L Q A) → Type 0
-  IsAtRest p m = m ≡ (seated p Idle, [])
+  IsAtRest p m = m ≡ (seated_view p Idle, [])
 
   -- the passes were joined into the last of them
   abbrev pub IsGathered : List (Pass L Q A) → Me S (View L Q A) → Type 0
   IsGathered passes m = (first : Pass L Q A) × (done : List (Pass L Q A)) × (passes ≡ done ++ first ∷ [])
-      × (m ≡ (record (seated first Idle) { joined = map (λ p. joined_of (seated p Idle)) done }, []))
+      × (m ≡ (record (seated_view first Idle) { joined = map (λ p. joined_of (seated_view p Idle)) done }, []))
 
   -- a ticket was drawn
   abbrev pub drew : Step S → Me S (View L Q A) → ℕ → Me S (View L Q A) → Type 0
-  drew st m n m' = (p : Pass L Q A) → m ≡ (seated p Idle, [])
-      → (t : ℕ) × (n ≡ t % 2 ^ 64) × (m' ≡ (seated p (Waiting t), []))
+  drew st m n m' = (p : Pass L Q A) → m ≡ (seated_view p Idle, [])
+      → (t : ℕ) × (n ≡ t % 2 ^ 64) × (m' ≡ (seated_view p (Waiting t), []))
 
   -- the ticket was drawn where it was the next one, and else nothing has changed
-  abbrev pub claimed : Step S → Me S (View L Q A) → ℕ → Me S (View L Q A) → Type 0
-  claimed st m n m' = (p : Pass L Q A) → m ≡ (seated p Idle, [])
-      → (n ≡ st.first → (t : ℕ) × (n ≡ t % 2 ^ 64) × (m' ≡ (seated p (Waiting t), []))) × (n ≢ st.first → m' ≡ m)
+  abbrev pub claims_ticket : Step S → Me S (View L Q A) → ℕ → Me S (View L Q A) → Type 0
+  claims_ticket st m n m' = (p : Pass L Q A) → m ≡ (seated_view p Idle, [])
+      → (n ≡ st.first → (t : ℕ) × (n ≡ t % 2 ^ 64) × (m' ≡ (seated_view p (Waiting t), []))) × (n ≢ st.first → m' ≡ m)
 
   -- the turn has come where the serving word is the ticket's
   abbrev pub watched : Step S → Me S (View L Q A) → ℕ → Me S (View L Q A) → Type 0
-  watched st m n m' = (p : Pass L Q A) (t : ℕ) → m ≡ (seated p (Waiting t), [])
-      → (n ≡ t % 2 ^ 64 → m' ≡ (seated p (Turn t), [])) × (n ≢ t % 2 ^ 64 → m' ≡ m)
+  watched st m n m' = (p : Pass L Q A) (t : ℕ) → m ≡ (seated_view p (Waiting t), [])
+      → (n ≡ t % 2 ^ 64 → m' ≡ (seated_view p (Turn t), [])) × (n ≢ t % 2 ^ 64 → m' ≡ m)
 
   -- the entry is in the history, and the number found is that of the entries before it
   abbrev pub counted : List (Entry Q A) → Step S → Me S (View L Q A) → ℕ → Me S (View L Q A) → Type 0
-  counted es st m n m' = (p : Pass L Q A) (t : ℕ) (c : List (ℕ × S)) → m ≡ (seated p (Out t), c)
-      → (m' ≡ (seated (longer p es) (Counted t), c)) × (n ≡ length p.seen % 2 ^ 64)
+  counted es st m n m' = (p : Pass L Q A) (t : ℕ) (c : List (ℕ × S)) → m ≡ (seated_view p (Out t), c)
+      → (m' ≡ (seated_view (longer p es) (Counted t), c)) × (n ≡ length p.seen % 2 ^ 64)
 
   -- the value is at home again
   abbrev pub gave : Step S → Me S (View L Q A) → ℕ → Me S (View L Q A) → Type 0
-  gave st m n m' = (p : Pass L Q A) (t : ℕ) (x : S) → m ≡ (seated p (Counted t), (0, x) ∷ [])
-      → m' ≡ (seated p (Home t), [])
+  gave st m n m' = (p : Pass L Q A) (t : ℕ) (x : S) → m ≡ (seated_view p (Counted t), (0, x) ∷ [])
+      → m' ≡ (seated_view p (Home t), [])
 
   -- the turn was handed on
   abbrev pub passed : Step S → Me S (View L Q A) → ℕ → Me S (View L Q A) → Type 0
-  passed st m n m' = (p : Pass L Q A) (t : ℕ) → m ≡ (seated p (Home t), [])
-      → m' ≡ (seated p Idle, [])
+  passed st m n m' = (p : Pass L Q A) (t : ℕ) → m ≡ (seated_view p (Home t), [])
+      → m' ≡ (seated_view p Idle, [])
 
 module _ {V L Q A : Type 0} (law_of : V → L) (party : Q → ℕ) (run : L → List (Entry Q A) → Type 0) (stands : V → List (Entry Q A) → Type 0) where
   -- the value x stands for h, a run that goes on from what the pass had seen
@@ -112,8 +112,8 @@ module _ {V L Q A : Type 0} (law_of : V → L) (party : Q → ℕ) (run : L → 
 
   -- the value was taken, and for which list it stands is known
   abbrev pub took : Step (Option V) → Me (Option V) (View L Q A) → ℕ → Me (Option V) (View L Q A) → Type 0
-  took st m n m' = (p : Pass L Q A) (t : ℕ) → m ≡ (seated p (Turn t), [])
-      → (x : V) × (h : List (Entry Q A)) × (m' ≡ (seated (shown p h) (Out t), (0, Some x) ∷ [])) × StandsFor x h p
+  took st m n m' = (p : Pass L Q A) (t : ℕ) → m ≡ (seated_view p (Turn t), [])
+      → (x : V) × (h : List (Entry Q A)) × (m' ≡ (seated_view (pass_with_seen p h) (Out t), (0, Some x) ∷ [])) × StandsFor x h p
 
 module _ {V L Q A : Type 0} (law_of : V → L) (run : L → List (Entry Q A) → Type 0) (used : L → List (Entry Q A) → ℕ → ℕ) (stands : V → List (Entry Q A) → Type 0) where
   -- the value x became y by a step that was handed this moment and made this entry

@@ -66,9 +66,9 @@ impl<S, L, Q, A> Play<S, View<L, Q, A>> for Draw {
 pub(crate) struct Claim;
 
 impl<S, L, Q, A> Play<S, View<L, Q, A>> for Claim {
-    ghost use Rattle.turn_lock.specs.Steps.{claimed};
+    ghost use Rattle.turn_lock.specs.Steps.{claims_ticket};
 
-    ghost then = { claimed };
+    ghost then = { claims_ticket };
 }
 
 /// Loads the serving word: the seat has the turn where it finds its ticket.
@@ -139,9 +139,9 @@ impl<S, L, Q, A> Play<S, View<L, Q, A>> for Next {
 pub(crate) struct Deal;
 
 impl<L, Q, A> Split<View<L, Q, A>> for Deal {
-    ghost use Rattle.turn_lock.specs.Steps.{dealt, newcomer};
+    ghost use Rattle.turn_lock.specs.Steps.{dealt_view, newcomer};
 
-    ghost left = { dealt };
+    ghost left = { dealt_view };
 
     ghost right = { newcomer };
 }
@@ -150,9 +150,9 @@ impl<L, Q, A> Split<View<L, Q, A>> for Deal {
 pub(crate) struct Gather;
 
 impl<L, Q, A> Join<View<L, Q, A>> for Gather {
-    ghost use Rattle.turn_lock.specs.Steps.{both, spent};
+    ghost use Rattle.turn_lock.specs.Steps.{both, spent_view};
 
     ghost both = { both };
 
-    ghost spent = { spent };
+    ghost spent = { spent_view };
 }

@@ -5,7 +5,7 @@ ghost use Rattle.turn_lock.specs.declared.table.TheConstants.{PASS_LIMIT};
 ghost use Rattle.turn_lock.specs.declared.view.Stage.TheVariants.{Idle, Waiting, Turn, Out, Counted};
 ghost use Rattle.turn_lock.specs.Entries.{entry, own};
 ghost use Rattle.turn_lock.specs.Passes.{Pass, Closes, unused};
-ghost use Rattle.turn_lock.specs.Steps.{knows, maker, seated, shown, longer, StandsFor, StepsBy, IsAtRest, IsGathered};
+ghost use Rattle.turn_lock.specs.Steps.{knows, maker, seated_view, pass_with_seen, longer, StandsFor, StepsBy, IsAtRest, IsGathered};
 
 use crate::kept::{Kept, Stepped};
 use crate::table::{
@@ -242,7 +242,7 @@ impl<V: Kept> Turns<V> {
         requires idle { (p : Pass V.Law V.Request V.Answer) × IsAtRest p seat.old.me }
         ensures lock { seat.new.table_id ≡ seat.old.table_id }
         ensures turn { (p : Pass V.Law V.Request V.Answer) → IsAtRest p seat.old.me
-            → (t : ℕ) × (seat.new.me ≡ (seated p (Turn t), [])) }
+            → (t : ℕ) × (seat.new.me ≡ (seated_view p (Turn t), [])) }
     {
         let ticket = self.draw(rt, seat);
         let mut round = 0u32;
@@ -264,7 +264,7 @@ impl<V: Kept> Turns<V> {
         requires idle { (p : Pass V.Law V.Request V.Answer) × IsAtRest p seat.old.me }
         ensures lock { seat.new.table_id ≡ seat.old.table_id }
         ensures drawn { (p : Pass V.Law V.Request V.Answer) → IsAtRest p seat.old.me
-            → (t : ℕ) × (result ≡ t % 2 ^ 64) × (seat.new.me ≡ (seated p (Waiting t), [])) }
+            → (t : ℕ) × (result ≡ t % 2 ^ 64) × (seat.new.me ≡ (seated_view p (Waiting t), [])) }
     {
         for round in 0..PATIENCE {
             let serving = self.table.shared.peek(SERVING);
@@ -299,10 +299,10 @@ impl<V: Kept> Turns<V> {
     // Takes the value out, in the seat's turn.
     fn take(&self, seat: &mut LockSeat<V>)
         requires lock { seat.old.table_id ≡ self.now.id.table }
-        requires turn { (p : Pass V.Law V.Request V.Answer) × (t : ℕ) × (seat.old.me ≡ (seated p (Turn t), [])) }
+        requires turn { (p : Pass V.Law V.Request V.Answer) × (t : ℕ) × (seat.old.me ≡ (seated_view p (Turn t), [])) }
         ensures lock { seat.new.table_id ≡ seat.old.table_id }
-        ensures took { (p : Pass V.Law V.Request V.Answer) (t : ℕ) → seat.old.me ≡ (seated p (Turn t), [])
-            → (x : V) × (h : List (Entry V.Request V.Answer)) × (seat.new.me ≡ (seated (shown p h) (Out t), (0, Some x) ∷ [])) × StandsFor V.law V.party V.run V.stands x h p }
+        ensures took { (p : Pass V.Law V.Request V.Answer) (t : ℕ) → seat.old.me ≡ (seated_view p (Turn t), [])
+            → (x : V) × (h : List (Entry V.Request V.Answer)) × (seat.new.me ≡ (seated_view (pass_with_seen p h) (Out t), (0, Some x) ∷ [])) × StandsFor V.law V.party V.run V.stands x h p }
     {
         self.table.shared.load::<Take<V>>(seat, SERVING);
     }
@@ -336,11 +336,11 @@ impl<V: Kept> Turns<V> {
     ) -> u64
         requires lock { seat.old.table_id ≡ self.now.id.table }
         requires said { J.said ≡ entry request.now stepped.now.used stepped.now.answer ∷ [] }
-        requires out { (p : Pass V.Law V.Request V.Answer) × (t : ℕ) × (x : V) × (seat.old.me ≡ (seated p (Out t), (0, Some x) ∷ []))
+        requires out { (p : Pass V.Law V.Request V.Answer) × (t : ℕ) × (x : V) × (seat.old.me ≡ (seated_view p (Out t), (0, Some x) ∷ []))
             × V.run p.law (p.seen ++ J.said) × (V.party request.now ≡ p.number) }
         ensures lock { seat.new.table_id ≡ seat.old.table_id }
-        ensures counted { (p : Pass V.Law V.Request V.Answer) (t : ℕ) (x : V) → seat.old.me ≡ (seated p (Out t), (0, Some x) ∷ [])
-            → (seat.new.me ≡ (seated (longer p J.said) (Counted t), (0, Some x) ∷ [])) × (result ≡ length p.seen % 2 ^ 64) }
+        ensures counted { (p : Pass V.Law V.Request V.Answer) (t : ℕ) (x : V) → seat.old.me ≡ (seated_view p (Out t), (0, Some x) ∷ [])
+            → (seat.new.me ≡ (seated_view (longer p J.said) (Counted t), (0, Some x) ∷ [])) × (result ≡ length p.seen % 2 ^ 64) }
     {
         self.table.shared.load::<Count<J>>(seat, SERVING)
     }
@@ -348,10 +348,10 @@ impl<V: Kept> Turns<V> {
     // Puts the value back, and serves the next ticket.
     fn give(&self, seat: &mut LockSeat<V>)
         requires lock { seat.old.table_id ≡ self.now.id.table }
-        requires counted { (p : Pass V.Law V.Request V.Answer) × (t : ℕ) × (x : V) × (seat.old.me ≡ (seated p (Counted t), (0, Some x) ∷ []))
+        requires counted { (p : Pass V.Law V.Request V.Answer) × (t : ℕ) × (x : V) × (seat.old.me ≡ (seated_view p (Counted t), (0, Some x) ∷ []))
             × V.stands x p.seen × (V.law x ≡ p.law) }
         ensures lock { seat.new.table_id ≡ seat.old.table_id }
-        ensures idle { (p : Pass V.Law V.Request V.Answer) (t : ℕ) (x : V) → seat.old.me ≡ (seated p (Counted t), (0, Some x) ∷ [])
+        ensures idle { (p : Pass V.Law V.Request V.Answer) (t : ℕ) (x : V) → seat.old.me ≡ (seated_view p (Counted t), (0, Some x) ∷ [])
             → IsAtRest p seat.new.me }
     {
         self.table.shared.load::<Give>(seat, SERVING);

@@ -19,7 +19,7 @@ returns-in_err-glance-clause-all c = λ g numbers is. let bad = c.in_err-glance.
 
 pub returns-then-eq-clause-read : goal.returns-then-eq-clause-read
 returns-then-eq-clause-read c =
-    unended (glance_text c.in_ok-glance.glance) c.write_reply-end.new.room c.args.reply.now c.write_reply-end.result c.if-end-gt0.true (omega (arith, c.write_reply-end.ensures.place, c.write_reply-end.array_long))
+    unended (glance_text c.in_ok-glance.glance) c.write_reply-end.new.room c.args.reply.now c.write_reply-end.result c.if-end-gt0.true (omega (arith, c.write_reply-end.ensures.offset, c.write_reply-end.array_long))
     c.write_reply-end.ensures.written (same_bytes _ _ (sym c.if-eq.ensures))
 
 pub returns-then-eq-clause-all : goal.returns-then-eq-clause-all
@@ -28,7 +28,7 @@ returns-then-eq-clause-all c = λ g numbers is. c.in_ok-glance.ensures ∙ read 
 pub returns-else-end-gt0-clause-all : goal.returns-else-end-gt0-clause-all
 returns-else-end-gt0-clause-all c = λ g numbers is.
     let one : c.in_ok-glance.glance ≡ g = same c.in_ok-glance.glance g (c.in_ok-glance.ensures ∙ read c.args.reply.now g numbers is) in
-    let end = ended (glance_text c.in_ok-glance.glance) c.write_reply-end.new.room c.args.reply.now c.write_reply-end.result (omega (arith, c.write_reply-end.ensures.place, c.write_reply-end.array_long))
+    let end = ended (glance_text c.in_ok-glance.glance) c.write_reply-end.new.room c.args.reply.now c.write_reply-end.result (omega (arith, c.write_reply-end.ensures.offset, c.write_reply-end.array_long))
     c.write_reply-end.ensures.written (ap glance_text one ∙ is) in
     elim c.else-end-gt0.branch [
       | else-end-gt0-via-then-end-gt0+else-eq w ↦ let eq = bytes_same _ _ end.1 in let bad = sym w.if-eq.ensures in absurd cc

@@ -1,5 +1,5 @@
 use Rattle.std.proofs.Common.{◌≡◌, ◌+◌, ◌-◌, ◌*◌, ◌/◌, [], ◌∷◌, drop, get_or, length, ap, arith, ℕ}
-use Rattle.kex_net.specs.Trees.{falling, leading, met, level_caps, level_nexts, level_meets}
+use Rattle.kex_net.specs.Trees.{falling, leading, stage_met, level_caps, level_nexts, level_meets}
 use Rattle.kex_net.proofs.TreeLoops.{added, last_added, all_added, pair_fits, same_next, caps_step, nexts_step, meets_step, last_up, caps_end, nexts_end, meets_none, meets_last}
 use Rattle.kex_net.proofs.trees.level.Goals as goal
 use Rattle.kex_net.proofs.trees.level.Goals.{then-sizes-eq1+in_ok-push, else-sizes-eq1}
@@ -16,7 +16,7 @@ loop-pair-preserved c = let m = c.args.m in let sizes = c.args.sizes.now in let 
           (caps_step m first sizes ups p more c.loop-pair.invariant.ups) c.loop-pair.invariant.caps;
       nexts = added c.push_pair.new.self.next.items c.loop-pair.stages.next.items (leading first count (get_or ups p 0)) (level_nexts m second (drop (2 * (p + 1)) sizes) (drop (p + 1) ups)) (level_nexts m first (drop (2 * p) sizes) (drop p ups)) (level_nexts m c.args.base sizes ups) c.in_ok-push_pair.ensures.nexts
           (nexts_step m first sizes ups p more c.loop-pair.invariant.ups second e) c.loop-pair.invariant.nexts;
-      meets = added c.push_pair.new.self.meets.items c.loop-pair.stages.meets.items (met first count (get_or ups p 0) ∷ met first count (get_or ups p 0) ∷ []) (level_meets m second (drop (2 * (p + 1)) sizes) (drop (p + 1) ups)) (level_meets m first (drop (2 * p) sizes) (drop p ups)) (level_meets m c.args.base sizes ups) c.in_ok-push_pair.ensures.meets
+      meets = added c.push_pair.new.self.meets.items c.loop-pair.stages.meets.items (stage_met first count (get_or ups p 0) ∷ stage_met first count (get_or ups p 0) ∷ []) (level_meets m second (drop (2 * (p + 1)) sizes) (drop (p + 1) ups)) (level_meets m first (drop (2 * p) sizes) (drop p ups)) (level_meets m c.args.base sizes ups) c.in_ok-push_pair.ensures.meets
           (meets_step m first sizes ups p more c.loop-pair.invariant.ups second e) c.loop-pair.invariant.meets;
       ups = same_next m first sizes ups p more c.loop-pair.invariant.ups;
       room = let r = c.loop-pair.invariant.room in omega arith;

@@ -12,5 +12,5 @@ overflow_sub-digits c = year_length c.args.year _ c.requires.year (c.as_bytes-di
 pub put-requires : goal.put-requires
 put-requires c = omega (arith, year_length c.args.year _ c.requires.year (c.as_bytes-digits.ensures.value ∙ c.format.ensures.text))
 
-pub returns-clause-place : goal.returns-clause-place
-returns-clause-place c = omega (arith, year_length c.args.year _ c.requires.year (c.as_bytes-digits.ensures.value ∙ c.format.ensures.text))
+pub returns-clause-offset : goal.returns-clause-offset
+returns-clause-offset c = omega (arith, year_length c.args.year _ c.requires.year (c.as_bytes-digits.ensures.value ∙ c.format.ensures.text))

@@ -5,7 +5,7 @@ use Rattle.lic_types.specs.declared.client.RuleLine.{RuleLine}
 use Rattle.options_text.specs.Names.{is_known}
 use Rattle.options_text.specs.Options.{has_hosts, has_users}
 use Rattle.options_text.proofs.NameSets.{first_is}
-use Rattle.options_text.proofs.told.first_untold.Goals as goal
+use Rattle.options_text.proofs.undefined.first_undefined.Goals as goal
 
 pub returns : goal.returns
 returns c =

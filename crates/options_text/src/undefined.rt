@@ -1,6 +1,6 @@
 ghost use Rattle.std.specs.Prelude.{◌≡◌, not, find, IfOk};
 ghost use Rattle.std.specs.Option.{option_map};
-ghost use Rattle.options_text.specs.Names.{is_known, is_listed, line_untold};
+ghost use Rattle.options_text.specs.Names.{is_known, is_listed, line_undefined};
 ghost use Rattle.options_text.specs.Parts.{file_of};
 
 use crate::names::{GroupNames, has_name, names_of};
@@ -47,8 +47,8 @@ fn line_of(rule: Option<RuleLine>) -> Option<u32>
 }
 
 /// The line of the first rule that names a group which no line of the whole file defines.
-pub fn first_untold(alloc: Global, parts: &Parts) -> Result<Option<u32>, NoMemory>
-    ensures { IfOk result (λ line. line ≡ line_untold (file_of parts.now)) }
+pub fn first_undefined(alloc: Global, parts: &Parts) -> Result<Option<u32>, NoMemory>
+    ensures { IfOk result (λ line. line ≡ line_undefined (file_of parts.now)) }
 {
     let names = names_of(alloc, parts.groups.as_slice())?;
     Ok(line_of(first_of(&names, parts.lines.as_slice())))
