@@ -14,7 +14,8 @@ const ENTRY_LIMIT: usize = 4096;
 
 /// The end of a log's queue at which entries go in. One thread at a time has it.
 ///
-/// Contracts see it as a `Pusher`: `queue` tells its queue from others, and `pushed` is the list of all entries that were pushed.
+/// Contracts see it as a `Pusher`: `queue` tells its queue from others, and `pushed` is the list of all entries that
+/// were pushed.
 #[derive(Drop)]
 pub struct LogPush {
     queue: Arc<LogQueue, Global>,
@@ -34,8 +35,9 @@ impl Model for LogPush {
     ghost invariant = { λ p. Pushes (arc_value p.queue) p.end p.count };
 }
 
-/// Which queue a log has, for the law of who keeps a `LogPush` under a lock: the lock tells its callers the law and not what it
-/// keeps, so a `LogTake` is known to be the other end of that very queue where the law names it. No value of it is made.
+/// Which queue a log has, for the law of who keeps a `LogPush` under a lock: the lock tells its callers the law and not
+/// what it keeps, so a `LogTake` is known to be the other end of that very queue where the law names it. No value of it
+/// is made.
 ///
 /// Contracts see it as the `queue` of the two ends.
 pub struct QueueId {
@@ -52,7 +54,8 @@ impl Model for QueueId {
 
 /// The end of a log's queue at which entries come out. One thread at a time has it.
 ///
-/// Contracts see it as a `Taker`: `queue` tells its queue from others, and `taken` is the list of all entries that were taken.
+/// Contracts see it as a `Taker`: `queue` tells its queue from others, and `taken` is the list of all entries that were
+/// taken.
 #[derive(Drop)]
 pub struct LogTake {
     queue: Arc<LogQueue, Global>,
@@ -96,7 +99,8 @@ pub fn log_queue(alloc: Global) -> Result<(LogPush, LogTake), NoMemory>
 }
 
 impl LogPush {
-    /// Pushes an entry, unless 4,096 were pushed before: then it says false, and pushes none. It never meets a full queue, and takes no memory.
+    /// Pushes an entry, unless 4,096 were pushed before: then it says false, and pushes none. It never meets a full
+    /// queue, and takes no memory.
     pub fn push<R: Wait>(&mut self, rt: &R, entry: &Entry) -> bool
         ensures pushed { MatchBool result ((length self.old.pushed < ENTRY_LIMIT) × (self.new.pushed ≡ self.old.pushed ++ entry.now ∷ []))
             ((length self.old.pushed ≡ ENTRY_LIMIT) × (self.new.pushed ≡ self.old.pushed)) }

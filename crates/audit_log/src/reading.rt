@@ -130,8 +130,8 @@ fn read_words(words: Words<'_>) -> Result<Logged, ScriptWord>
     }
 }
 
-/// Whether a line sums up a log and has no entry: its first word is LOG or TALLY. Who reads a whole log passes such lines
-/// over.
+/// Whether a line sums up a log and has no entry: its first word is LOG or TALLY. Who reads a whole log passes such
+/// lines over.
 pub fn is_summary(line: &Line<'_>) -> bool
     ensures { result ≡ is_summary (worded line.now).1 }
 {
@@ -141,9 +141,9 @@ pub fn is_summary(line: &Line<'_>) -> bool
     }
 }
 
-/// Reads the line of an entry: `ENTRY pool #place moment party user host display project KIND` and the words of a reply, in just
-/// these capitals. The moment is in seconds since 1970-01-01 UTC and below 2^40, and the party is below 256. The numbers of
-/// the reply stand as they are printed. The form is this project's own.
+/// Reads the line of an entry: `ENTRY pool #place moment party user host display project KIND` and the words of a
+/// reply, in just these capitals. The moment is in seconds since 1970-01-01 UTC and below 2^40, and the party is below
+/// 256. The numbers of the reply stand as they are printed. The form is this project's own.
 ///
 /// The faults of a line are tried in this order:
 ///

@@ -63,9 +63,9 @@ pub fn write_entry(pool: u32, place: u64, entry: &Entry, room: &mut [u8; 640]) -
     put(room, at, b"\n")
 }
 
-/// Writes the line that ends the log of a pool: `LOG pool ENTRIES n WHOLE`, or CUT in place of WHOLE where the pool had more
-/// entries than the log keeps. It stands at the start of the room, its LF with it, and takes so many bytes, 640 at most. The
-/// form is this project's own.
+/// Writes the line that ends the log of a pool: `LOG pool ENTRIES n WHOLE`, or CUT in place of WHOLE where the pool had
+/// more entries than the log keeps. It stands at the start of the room, its LF with it, and takes so many bytes, 640 at
+/// most. The form is this project's own.
 pub fn write_log(pool: u32, entries: u64, cut: bool, room: &mut [u8; 640]) -> usize
     ensures offset { result ≤ 640 }
     ensures written { take result room.new ≡ log_text pool entries cut }
@@ -81,8 +81,8 @@ pub fn write_log(pool: u32, entries: u64, cut: bool, room: &mut [u8; 640]) -> us
     }
 }
 
-/// Writes the line of a pool's tally: `TALLY pool CALLS calls GRANTS grants CARD USES uses`. It stands at the start of the
-/// room, its LF with it, and takes so many bytes, 640 at most. The form is this project's own.
+/// Writes the line of a pool's tally: `TALLY pool CALLS calls GRANTS grants CARD USES uses`. It stands at the start of
+/// the room, its LF with it, and takes so many bytes, 640 at most. The form is this project's own.
 pub fn write_tally(pool: u32, calls: u64, grants: u64, uses: u64, room: &mut [u8; 640]) -> usize
     ensures offset { result ≤ 640 }
     ensures written { take result room.new ≡ tally_text pool calls grants uses }

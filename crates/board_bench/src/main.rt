@@ -1,6 +1,8 @@
 //! Publishes to a board and reads it, to measure what a call costs.
 //!
-//! `board_bench publish N ROUNDS` makes a board with N readers, from 1 to 256, and publishes ROUNDS entries; `board_bench glance N ROUNDS` publishes one and reads it ROUNDS times with the last of the N passes. It prints the front that is read at the end, so that a lost one shows.
+//! `board_bench publish N ROUNDS` makes a board with N readers, from 1 to 256, and publishes ROUNDS entries;
+//! `board_bench glance N ROUNDS` publishes one and reads it ROUNDS times with the last of the N passes. It prints the
+//! front that is read at the end, so that a lost one shows.
 #![tactic(auto)]
 
 ghost use Rattle.std.specs.Prelude.{◌≡◌, ◌≤◌, []};
@@ -30,7 +32,7 @@ impl Call {
     }
 }
 
-// The desk has one seat.
+/// The desk has one seat.
 struct OneSeat;
 
 impl Ruling<()> for OneSeat {
@@ -48,7 +50,7 @@ const OPENING: Glance = Glance {
     queued: 0,
 };
 
-// Publishes that party 0 looks for its seat, and has none.
+/// Publishes that party 0 looks for its seat, and has none.
 fn look<R: Wait>(rt: &R, client: &Client, board: &mut Board)
     requires sets { board.old.front.sets ≡ one_seat }
     requires idle { IsIdle board.old.front.list }
@@ -82,7 +84,7 @@ fn read(pass: &mut BoardPass, rounds: u32) {
     }
 }
 
-// Makes the calls, and gives the last front.
+/// Makes the calls, and gives the last front.
 fn run<R: Wait>(
     rt: &R,
     client: &Client,

@@ -1,6 +1,8 @@
 //! Asks the book by rows and the plain book the same requests at random, and compares all that they answer.
 //!
-//! It makes 200 sites, each a pool of 1 to 300 licences, few of them mostly, with four rule sets whose lines are drawn, and asks both books 500 requests of every kind. The replies, the moments used and the glances have to be the same, and each kind of reply has to come.
+//! It makes 200 sites, each a pool of 1 to 300 licences, few of them mostly, with four rule sets whose lines are drawn,
+//! and asks both books 500 requests of every kind. The replies, the moments used and the glances have to be the same,
+//! and each kind of reply has to come.
 #![tactic(auto)]
 
 mod draws;

@@ -15,11 +15,11 @@ use std::alloc::Global;
 
 /// The text that tells of a licence and an options file.
 ///
-/// In this order: a line for each pool with its number from 0, its name, its version as the licence writes it, its count
-/// in licences and its last day; a line for each note of the licence and then for each note of the options, with the
-/// physical line and what was noticed; a line for each RESERVE line that a pool cuts, pool by pool, with the number of
-/// seats that it keeps there; `OPTIONS`; and the canonical text of the options. The form is this project's own. The one
-/// error is want of memory.
+/// In this order: a line for each pool with its number from 0, its name, its version as the licence writes it, its
+/// count in licences and its last day; a line for each note of the licence and then for each note of the options, with
+/// the physical line and what was noticed; a line for each RESERVE line that a pool cuts, pool by pool, with the number
+/// of seats that it keeps there; `OPTIONS`; and the canonical text of the options. The form is this project's own. The
+/// one error is want of memory.
 pub fn check_text(alloc: Global, licence: &Licence, options: &Options) -> Result<Vec<u8>, NoMemory>
     ensures { IfOk result (λ text. text.items ≡ check_of licence.now options.now) }
 {

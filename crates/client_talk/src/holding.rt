@@ -28,8 +28,8 @@ fn keep_seat<L: Link, K: Clock, B: Bell, O: Sink>(
     print_reply(alloc, out, given)
 }
 
-/// Waits for a seat, prints the reply by which it came, and keeps it; or gives the place in the queue back, where the bell has
-/// rung before.
+/// Waits for a seat, prints the reply by which it came, and keeps it; or gives the place in the queue back, where the
+/// bell has rung before.
 fn wait_for_seat<L: Link, K: Clock, B: Bell, O: Sink>(
     alloc: Global,
     hold: &Hold<'_>,
@@ -72,8 +72,8 @@ fn go_on<L: Link, K: Clock, B: Bell, O: Sink>(
     }
 }
 
-/// Takes a seat, or waits for one where it is to, keeps it until the bell has rung, and gives it back. Each reply is printed as
-/// it comes, but those to BEATs that change nothing.
+/// Takes a seat, or waits for one where it is to, keeps it until the bell has rung, and gives it back. Each reply is
+/// printed as it comes, but those to BEATs that change nothing.
 pub(crate) fn hold_seat<L: Link, K: Clock, B: Bell, O: Sink>(
     alloc: Global,
     hold: &Hold<'_>,

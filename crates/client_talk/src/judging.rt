@@ -77,9 +77,10 @@ fn judge_lines(alloc: Global, errand: &Errand<'_>) -> Result<(), Cause>
     }
 }
 
-/// Whether the words of an errand will do: `BadWord` comes exactly where a word that says who asks is no name, with the first
-/// such word; `TooLong` and `NoRequest` exactly where these are names, or none is wanted, and a line of the errand has more
-/// than 1,024 bytes or is no request of the protocol, of the first such line; and `NoMemory` where memory ran out.
+/// Whether the words of an errand will do: `BadWord` comes exactly where a word that says who asks is no name, with the
+/// first such word; `TooLong` and `NoRequest` exactly where these are names, or none is wanted, and a line of the
+/// errand has more than 1,024 bytes or is no request of the protocol, of the first such line; and `NoMemory` where
+/// memory ran out.
 pub fn judge(alloc: Global, errand: &Errand<'_>, client: &Client<'_>) -> Result<(), Cause>
     ensures { Judges (errand_verdict errand.now client.now) result }
 {

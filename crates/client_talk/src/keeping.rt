@@ -21,8 +21,8 @@ use line_protocol::Feeder;
 use session_outside::{Bell, Clock, Got, Link};
 use std::alloc::Global;
 
-/// Says who the client is and asks for a seat, or for a seat or else a place in the queue where it is to wait, and gives the
-/// reply.
+/// Says who the client is and asks for a seat, or for a seat or else a place in the queue where it is to wait, and
+/// gives the reply.
 pub fn take<L: Link>(
     alloc: Global,
     link: &mut L,
@@ -103,7 +103,8 @@ fn turn<L: Link>(
     }
 }
 
-/// Stands at a desk, with a BEAT every so many seconds, until the bell has rung or a reply ends the standing, which is given.
+/// Stands at a desk, with a BEAT every so many seconds, until the bell has rung or a reply ends the standing, which is
+/// given.
 fn stay<L: Link, K: Clock, B: Bell>(
     alloc: Global,
     link: &mut L,
@@ -147,8 +148,8 @@ pub fn give_back<L: Link>(
     )
 }
 
-/// Keeps the seat of a feature, by a BEAT every so many seconds, until the bell has rung, and then gives it back. The reply to
-/// the CHECKIN is given.
+/// Keeps the seat of a feature, by a BEAT every so many seconds, until the bell has rung, and then gives it back. The
+/// reply to the CHECKIN is given.
 pub fn keep<L: Link, K: Clock, B: Bell>(
     alloc: Global,
     link: &mut L,
@@ -165,8 +166,8 @@ pub fn keep<L: Link, K: Clock, B: Bell>(
     }
 }
 
-/// Waits in the queue of a feature's desk, with a BEAT every so many seconds, until a seat has come, whose reply is given, or
-/// the bell has rung.
+/// Waits in the queue of a feature's desk, with a BEAT every so many seconds, until a seat has come, whose reply is
+/// given, or the bell has rung.
 pub fn wait<L: Link, K: Clock, B: Bell>(
     alloc: Global,
     link: &mut L,

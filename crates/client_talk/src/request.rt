@@ -24,8 +24,9 @@ pub struct Request {
 }
 
 impl Request {
-    /// The request of these words. `TooLong` comes exactly where they have more than 1,024 bytes, `NoRequest` exactly where they
-    /// have no more and are no request of the protocol, with their first fault; `NoMemory` where memory ran out.
+    /// The request of these words. `TooLong` comes exactly where they have more than 1,024 bytes, `NoRequest` exactly
+    /// where they have no more and are no request of the protocol, with their first fault; `NoMemory` where memory ran
+    /// out.
     pub fn make(alloc: Global, words: &str, want: Want) -> Result<Request, Cause>
         ensures { Makes words.now want result }
     {

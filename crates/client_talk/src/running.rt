@@ -27,8 +27,8 @@ pub enum Errand<'a> {
     Shutdown,
 }
 
-/// Does an errand and prints what comes of it. Where it isn't done the cause is given, and nothing of the reply at which it
-/// stopped was printed; on `WriteFault` a prefix of what was to be printed may have been.
+/// Does an errand and prints what comes of it. Where it isn't done the cause is given, and nothing of the reply at
+/// which it stopped was printed; on `WriteFault` a prefix of what was to be printed may have been.
 pub fn run<L: Link, K: Clock, B: Bell, O: Sink>(
     alloc: Global,
     errand: &Errand<'_>,

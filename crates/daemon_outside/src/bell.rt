@@ -6,8 +6,8 @@ use std::alloc::Global;
 use std::sync::Arc;
 use std::sync::atomic::{AtomicU64, Ordering};
 
-/// A bell that rings together with every other bell of the same flag, in whichever threads they are. It tells nothing of
-/// its answers.
+/// A bell that rings together with every other bell of the same flag, in whichever threads they are. It tells nothing
+/// of its answers.
 #[derive(Drop)]
 pub struct SharedBell {
     /// Not 0 once any of the bells was rung.

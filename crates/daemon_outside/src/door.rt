@@ -25,7 +25,8 @@ pub trait Door {
 
     ghost use Rattle.daemon_outside.specs.Doors.{IsFresh, is_failed, is_quiet, fails_after, lent_after};
 
-    /// The door stands for this list of the talks of the links that it took back. One that doesn't tell stands for every list.
+    /// The door stands for this list of the talks of the links that it took back. One that doesn't tell stands for
+    /// every list.
     ghost talks: { Self → List (List Event) → Type 0 };
 
     /// How many accepts failed so far. It stands still at the last value of its counter.

@@ -22,8 +22,8 @@ pub enum Knock {
     Fault,
 }
 
-/// A door in memory. It gives a list of knocks, and then Quiet for ever; it keeps the links that it took back, and tells
-/// their talks.
+/// A door in memory. It gives a list of knocks, and then Quiet for ever; it keeps the links that it took back, and
+/// tells their talks.
 #[derive(Debug, Drop)]
 pub struct MemDoor {
     /// What is still to come, the next one last.

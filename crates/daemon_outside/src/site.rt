@@ -45,7 +45,8 @@ pub trait Site {
     /// The path of the site, where it tells it.
     ghost path: { Self → Option (List ℕ) };
 
-    /// The site stands for this list of what it keeps of the posts given back. One that doesn't tell stands for every list.
+    /// The site stands for this list of what it keeps of the posts given back. One that doesn't tell stands for every
+    /// list.
     ghost keeps: { Self → List Kept → Type 0 };
 
     /// How many posts were made.

@@ -16,32 +16,32 @@ use std::sync::atomic::{AtomicU64, Ordering};
 use std::thread::{Threads, join};
 use std::time::Duration;
 
-// For how many milliseconds the auditor sleeps where no log had an entry, and before the workers have begun.
+/// For how many milliseconds the auditor sleeps where no log had an entry, and before the workers have begun.
 const NAP: u64 = 50;
 
-// How often it sleeps before the workers have begun.
+/// How often it sleeps before the workers have begun.
 const NAP_LIMIT: u32 = 20;
 
-// What the word says before the workers have begun, while they run, and when all have ended.
+/// What the word says before the workers have begun, while they run, and when all have ended.
 const BEFORE: u32 = 0;
 
 const RUNNING: u32 = 1;
 
 const ENDED: u32 = 2;
 
-// Whether the word says this.
+/// Whether the word says this.
 fn is_at(word: &AtomicU64, stage: u32) -> bool {
     word.load(Ordering::SeqCst) == u64::from(stage)
 }
 
-// Lets the word say this, and wakes the auditor.
+/// Lets the word say this, and wakes the auditor.
 fn go_to(word: &AtomicU64, stage: u32) {
     word.store(u64::from(stage), Ordering::SeqCst);
     word.wake_all();
 }
 
-// Whether the workers have begun, after a second at most. Where no thread can be made for them, they begin when the auditor has
-// ended.
+/// Whether the workers have begun, after a second at most. Where no thread can be made for them, they begin when the
+/// auditor has ended.
 fn have_begun<R: Wait>(rt: &R, word: &AtomicU64) -> bool {
     for _nap in 0..NAP_LIMIT {
         if !is_at(word, BEFORE) {
@@ -52,7 +52,7 @@ fn have_begun<R: Wait>(rt: &R, word: &AtomicU64) -> bool {
     !is_at(word, BEFORE)
 }
 
-// Takes entries out of the logs as they come, until the workers have ended.
+/// Takes entries out of the logs as they come, until the workers have ended.
 fn audit<R: Wait>(rt: &R, mut logs: OfficeLogs, word: &AtomicU64) -> OfficeLogs
     ensures { (result.keepers ≡ logs.keepers) × (result.parties ≡ logs.parties) }
 {
@@ -71,7 +71,7 @@ fn audit<R: Wait>(rt: &R, mut logs: OfficeLogs, word: &AtomicU64) -> OfficeLogs
     logs
 }
 
-// Lets all workers serve at once until all have ended, and tells the auditor.
+/// Lets all workers serve at once until all have ended, and tells the auditor.
 fn work_all<
     R: Threads + Wait + Sync,
     D: Door + Send,
@@ -99,8 +99,8 @@ fn work_all<
     workers
 }
 
-/// Lets all workers serve at once, as [`run`] does, in threads beside this one, where the auditor takes entries out of the logs until
-/// they have ended. It gives both back.
+/// Lets all workers serve at once, as [`run`] does, in threads beside this one, where the auditor takes entries out of
+/// the logs until they have ended. It gives both back.
 pub(crate) fn run_audited<
     R: Threads + Wait + Sync,
     D: Door + Send + Drop,

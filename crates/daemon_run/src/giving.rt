@@ -7,8 +7,8 @@ ghost use Rattle.daemon_run.specs.Gives.{AreKept, any_broken, any_heard, any_ran
 use crate::worker::Worker;
 use daemon_outside::Site;
 
-/// Gives the posts of all workers back to the site, in order, and puts their counters behind those in `passes`. It takes
-/// no memory.
+/// Gives the posts of all workers back to the site, in order, and puts their counters behind those in `passes`. It
+/// takes no memory.
 pub fn give_back<P: Drop, T: Site>(
     site: &mut T,
     workers: Vec<Worker<P, T::Door, T::Clock, T::Bell, T::Gate>>,

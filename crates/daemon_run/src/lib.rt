@@ -1,7 +1,7 @@
 //! The daemon's run: posts for its workers, the workers in threads, and the close of the office.
 //!
-//! [`serve`] is the whole of it, over any site: [`post_all`], [`run`] with the auditor of the logs beside it, [`give_back`] and the
-//! office's close, one after another.
+//! [`serve`] is the whole of it, over any site: [`post_all`], [`run`] with the auditor of the logs beside it,
+//! [`give_back`] and the office's close, one after another.
 #![tactic(auto)]
 
 mod auditing;

@@ -13,7 +13,7 @@ use session_outside::{Bell, Clock, Gate};
 use std::sync::Wait;
 use std::thread::{Threads, for_each_mut};
 
-// Serves at the worker's post.
+/// Serves at the worker's post.
 fn work<R: Wait, D: Door, K: Clock, B: Bell, G: Gate>(
     rt: &R,
     office: &OfficeView<Desk>,
@@ -64,8 +64,8 @@ fn run_slice<
 
 /// Lets all workers serve at once, each in a thread of its own where one can be made, until all have ended.
 ///
-/// Each has the counters of one party, one for each desk of the office, none of which is holding or queued; so they are at
-/// the end.
+/// Each has the counters of one party, one for each desk of the office, none of which is holding or queued; so they are
+/// at the end.
 pub fn run<
     R: Threads + Wait + Sync,
     D: Door + Send,

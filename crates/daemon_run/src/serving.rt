@@ -19,14 +19,14 @@ use office_view::OfficeView;
 use std::sync::Wait;
 use std::thread::Threads;
 
-// There is one desk for each pool.
+/// There is one desk for each pool.
 fn pair(office: &OfficeView<Desk>)
     ensures { length office.now.desks ≡ length office.now.pools }
 {
     let _pools = office.pools();
 }
 
-// Whether one of the doors was broken.
+/// Whether one of the doors was broken.
 fn any_broken<P, D, K, B, G>(workers: &[Worker<P, D, K, B, G>]) -> bool
     ensures { result ≡ list_any (λ (w : _). is_broken w.end) workers.now }
 {
@@ -35,8 +35,8 @@ fn any_broken<P, D, K, B, G>(workers: &[Worker<P, D, K, B, G>]) -> bool
         .any(|worker| matches!(worker.end, DoorEnd::Broken))
 }
 
-/// Lets all workers serve while the auditor takes entries out of the logs, gives the posts back, and closes the office. It tells
-/// whether a door was broken, and what the office told.
+/// Lets all workers serve while the auditor takes entries out of the logs, gives the posts back, and closes the office.
+/// It tells whether a door was broken, and what the office told.
 pub fn serve_all<R: Threads + Wait + Sync, T: Site>(
     rt: &R,
     office: Office,

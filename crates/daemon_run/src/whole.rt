@@ -17,13 +17,13 @@ use licence_office::{Office, OfficeLogs, OfficePass};
 use std::sync::Wait;
 use std::thread::Threads;
 
-/// Listens at a path, serves all parties at once, one worker in a thread of its own for each, until the bell has rung, and
-/// closes the office. One more thread, the auditor, takes entries out of the logs while the workers run.
+/// Listens at a path, serves all parties at once, one worker in a thread of its own for each, until the bell has rung,
+/// and closes the office. One more thread, the auditor, takes entries out of the logs while the workers run.
 ///
-/// `passes` and `logs` are those of the office's making, a pass for each party, and `workers` is empty with room for as many.
-/// It takes no memory but threads, and what a desk's step takes. It gives every post back and closes the office, however it
-/// ends. `SiteFault` comes only where a call of the site failed, and before any session; `DoorFault` only where a door was
-/// broken; `Served` only where the bell was heard and no door was broken.
+/// `passes` and `logs` are those of the office's making, a pass for each party, and `workers` is empty with room for as
+/// many. It takes no memory but threads, and what a desk's step takes. It gives every post back and closes the office,
+/// however it ends. `SiteFault` comes only where a call of the site failed, and before any session; `DoorFault` only
+/// where a door was broken; `Served` only where the bell was heard and no door was broken.
 pub fn serve<R: Threads + Wait + Sync, T: Site>(
     rt: &R,
     office: Office,

@@ -1,6 +1,8 @@
 //! Checks seats of a desk out and in from several threads, to measure what a pair of calls costs.
 //!
-//! `desk_bench THREADS ROUNDS SEATS` makes a desk of SEATS licences with a party for each of THREADS, from 1 to 256, but two at least, and each asks CHECKOUT and CHECKIN in turn, ROUNDS times each, on so many threads at once. It closes the desk and prints the number of the grants, so that a lost one shows.
+//! `desk_bench THREADS ROUNDS SEATS` makes a desk of SEATS licences with a party for each of THREADS, from 1 to 256,
+//! but two at least, and each asks CHECKOUT and CHECKIN in turn, ROUNDS times each, on so many threads at once. It
+//! closes the desk and prints the number of the grants, so that a lost one shows.
 #![tactic(auto)]
 
 ghost use Rattle.std.specs.Prelude.{◌≡◌, ◌<◌, ◌≤◌, All, IfOk, length, vec_len};

@@ -30,8 +30,8 @@ pub struct DeskLaw {
 pub struct NotedReply {
     /// The reply.
     pub reply: Reply,
-    /// What the board shows after the step. It stands for all entries up to and with this one, or, once the board has ended,
-    /// for those that it shows for good.
+    /// What the board shows after the step. It stands for all entries up to and with this one, or, once the board has
+    /// ended, for those that it shows for good.
     pub note: BoardNote,
 }
 

@@ -81,7 +81,7 @@ pub fn close_book<R: Wait>(
     end(rt, book, take, calls)
 }
 
-// The lock's passes of all parties, in order.
+/// The lock's passes of all parties, in order.
 fn collect(passes: Vec<BookPass>, tickets: &mut Vec<TurnPass<DeskBook>>)
     requires empty { tickets.old.items ≡ [] }
     requires room { vec_len passes ≤ vec_capacity tickets.old }
@@ -92,7 +92,7 @@ fn collect(passes: Vec<BookPass>, tickets: &mut Vec<TurnPass<DeskBook>>)
     }
 }
 
-// Ends a book that made so many calls, with the entries that are left in its log's queue.
+/// Ends a book that made so many calls, with the entries that are left in its log's queue.
 fn end<R: Wait>(rt: &R, book: DeskBook, take: LogTake, calls: u64) -> Closed
     requires queue { take.queue ≡ book.log.queue }
     ensures entries { result.log.entries.items ≡ book.log.pushed }
@@ -116,7 +116,7 @@ fn end<R: Wait>(rt: &R, book: DeskBook, take: LogTake, calls: u64) -> Closed
     Closed { log, calls, grants }
 }
 
-// Ends a book whose lock could not be made.
+/// Ends a book whose lock could not be made.
 pub(crate) fn discard<R: Wait>(rt: &R, book: DeskBook) {
     let DeskBook {
         book: _,

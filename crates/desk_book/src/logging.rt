@@ -7,7 +7,8 @@ use audit_log::LogPush;
 use options_machine::Entry;
 use std::sync::Wait;
 
-// Logs one entry more of a history, if it is one of the first. The answer says whether the history is longer than the log.
+/// Logs one entry more of a history, if it is one of the first. The answer says whether the history is longer than the
+/// log.
 pub(crate) fn log_entry<R: Wait>(rt: &R, log: &mut LogPush, entry: &Entry, cut: bool) -> bool
     ensures logged { (h : List Entry) → log.old.pushed ≡ take ENTRY_LIMIT h → log.new.pushed ≡ take ENTRY_LIMIT (h ++ entry.now ∷ []) }
     ensures cut { (h : List Entry) → log.old.pushed ≡ take ENTRY_LIMIT h → cut ≡ nat_lt ENTRY_LIMIT (length h) → result ≡ nat_lt ENTRY_LIMIT (length (h ++ entry.now ∷ [])) }

@@ -26,11 +26,11 @@ impl Ruling<Book> for SetsOf {
     ghost sets = { λ b. b.sets };
 }
 
-/// A book behind its lock, in the opening state, with one to four rule sets of one count; the passes of the parties 0 to
-/// `n` - 1, in order, 1 to 256; and the end of its log at which entries come out.
+/// A book behind its lock, in the opening state, with one to four rule sets of one count; the passes of the parties 0
+/// to `n` - 1, in order, 1 to 256; and the end of its log at which entries come out.
 ///
-/// It takes all memory that book, lock and log ever need, but what the board takes at its first entries. `NoMemory` comes
-/// where there is not so much. It waits for nobody, since the board has no reader yet.
+/// It takes all memory that book, lock and log ever need, but what the board takes at its first entries. `NoMemory`
+/// comes where there is not so much. It waits for nobody, since the board has no reader yet.
 pub fn lock_book<R: Wait>(
     rt: &R,
     alloc: Global,
@@ -57,7 +57,7 @@ pub fn lock_book<R: Wait>(
     }
 }
 
-// A book in the opening state, the end of its log at which entries come out, and what each party reads its board with.
+/// A book in the opening state, the end of its log at which entries come out, and what each party reads its board with.
 fn open_book<R: Wait>(
     rt: &R,
     alloc: Global,
@@ -84,7 +84,7 @@ fn open_book<R: Wait>(
     Ok((made, take, views))
 }
 
-// Gives each pass of the lock, in order, its view of the board.
+/// Gives each pass of the lock, in order, its view of the board.
 fn pair(
     turns: &Turns<DeskBook>,
     tickets: &mut Vec<TurnPass<DeskBook>>,

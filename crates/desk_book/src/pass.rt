@@ -18,8 +18,9 @@ use turn_lock::{Answered, TurnPass, Turns};
 
 /// What a party asks a desk's book with, and sees its board. One thread at a time has it.
 ///
-/// Contracts see it as an `Asker`: of which lock, its `number`, the book's `law`, the history that it has `seen`, the entries of
-/// it that are its own as `mine`, how many entries the `board` showed at its last call, and what is `known` of the board.
+/// Contracts see it as an `Asker`: of which lock, its `number`, the book's `law`, the history that it has `seen`, the
+/// entries of it that are its own as `mine`, how many entries the `board` showed at its last call, and what is `known`
+/// of the board.
 #[derive(Drop)]
 pub struct BookPass {
     ticket: TurnPass<DeskBook>,
@@ -38,7 +39,7 @@ impl Model for BookPass {
 }
 
 impl BookPass {
-    // The pass of a party that has made no call.
+    /// The pass of a party that has made no call.
     pub(crate) fn of(ticket: TurnPass<DeskBook>, view: BoardPass) -> BookPass
         requires whole { ticket.law.parties ≡ ticket.lock.parties }
         requires fresh { (ticket.seen ≡ []) × (ticket.mine ≡ []) }
@@ -53,7 +54,7 @@ impl BookPass {
         }
     }
 
-    // The pass of the lock alone.
+    /// The pass of the lock alone.
     pub(crate) fn into_ticket(self) -> TurnPass<DeskBook>
         ensures { asker_of result self.board self.known ≡ self }
     {
@@ -72,7 +73,8 @@ impl BookPass {
         self.ticket.number()
     }
 
-    /// Makes the entry of a request in the caller's turn, at a moment in seconds since 1970-01-01 UTC. It may wait forever.
+    /// Makes the entry of a request in the caller's turn, at a moment in seconds since 1970-01-01 UTC. It may wait
+    /// forever.
     ///
     /// The answer is the entry's: its reply, the moment that it used, and how many entries came before it, modulo 2^64.
     pub fn ask<R: Wait>(
@@ -117,8 +119,8 @@ impl BookPass {
 
     /// Reads the board. It waits for nobody, takes no memory and makes no entry.
     ///
-    /// The answer shows the desk after a list that begins with all that was shown and heard before, and with all entries that
-    /// the board showed at the last call.
+    /// The answer shows the desk after a list that begins with all that was shown and heard before, and with all
+    /// entries that the board showed at the last call.
     pub fn glance(&mut self) -> Glance
         ensures shows { result ≡ glance_of self.new.law.sets self.new.known.list }
         ensures since { Extends self.old.known.list self.new.known.list }

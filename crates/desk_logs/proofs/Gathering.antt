@@ -26,19 +26,6 @@ module _ {S : Type 0} {held : S → Option (List ℕ)} {faults : S → ℕ} wher
     room = refl;
   }
 
-  -- what was gathered is written
-  pub emptied : (old new : S) (before after : Vec ℕ Global) (result : Result (Unit {0}) WriteFailed) → Wrote held faults old new before.items result → OnOk result (after.items ≡ []) → vec_capacity after ≡ vec_capacity before
-      → Gathers held faults old new before after before.items result
-  emptied old new before after (Ok u) w empty room = record {
-    ok = record { done = before.items; written = w.ok; all = ap (λ (g : List ℕ). before.items ++ g) empty ∙ append-nil before.items };
-    err = tt;
-    failed = tt;
-    steady = w.steady;
-    later = w.later;
-    room = room;
-  }
-  emptied old new before after (Err e) w empty room = record { ok = tt; err = w.err; failed = w.failed; steady = tt; later = w.later; room = room }
-
   -- one text after another
   pub joined : {old now new : S} {before between after : Vec ℕ Global} (first second : List ℕ) (result : Result (Unit {0}) WriteFailed) → Gathers held faults old now before between (before.items ++ first) (Ok tt)
       → Gathers held faults now new between after (between.items ++ second) result → Gathers held faults old new before after (before.items ++ (first ++ second)) result

@@ -108,13 +108,13 @@ fn put_tallies<O: Sink>(
     Ok(())
 }
 
-/// Writes the logs of all pools, in their order, each ended by a line that says how many entries it has and whether there
-/// were more; and then the tallies of all pools, in the same order. The pools are numbered from 0, up to 2^32 of them. The
-/// lines are this project's own; `audit_log` tells their forms.
+/// Writes the logs of all pools, in their order, each ended by a line that says how many entries it has and whether
+/// there were more; and then the tallies of all pools, in the same order. The pools are numbered from 0, up to 2^32 of
+/// them. The lines are this project's own; `audit_log` tells their forms.
 ///
-/// It takes no memory: the lines are gathered in the buffer, which is empty at the start and has room for 8,192 bytes or more,
-/// so that one write takes many of them. The bytes of the buffer are left open behind it. `WriteFailed` comes exactly where a
-/// write fails, and then a front of the whole text was written.
+/// It takes no memory: the lines are gathered in the buffer, which is empty at the start and has room for 8,192 bytes
+/// or more, so that one write takes many of them. The bytes of the buffer are left open behind it. `WriteFailed` comes
+/// exactly where a write fails, and then a front of the whole text was written.
 pub fn write_logs<O: Sink>(
     out: &mut O,
     logs: &[DeskLog],

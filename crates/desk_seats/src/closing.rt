@@ -10,7 +10,9 @@ use kex_words::Card;
 impl DeskSeats {
     /// Gives the cards back, in the order of their numbers, once all passes were taken in.
     ///
-    /// The uses of card s are the number of times that the parties had the seat s, modulo 2^64. So the uses of all cards together are as many as the numbers that the parties took. Each number of a party is that of one pass. It takes no memory and waits for nobody.
+    /// The uses of card s are the number of times that the parties had the seat s, modulo 2^64. So the uses of all
+    /// cards together are as many as the numbers that the parties took. Each number of a party is that of one pass. It
+    /// takes no memory and waits for nobody.
     pub fn close_gathered(self, gathering: SeatGathering) -> Vec<Card>
         requires own { gathering.table ≡ self }
         requires count { length gathering.numbers ≡ parties_of self }

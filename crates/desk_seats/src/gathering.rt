@@ -10,7 +10,7 @@ use seat_names::Seats;
 use std::marker::Model;
 use std::snapshot::Snapshot;
 
-// The passes of each kind of seats.
+/// The passes of each kind of seats.
 #[derive(Drop)]
 pub(crate) enum Gathered {
     // Seats with no gate, none of whose passes was taken in yet.
@@ -22,7 +22,8 @@ pub(crate) enum Gathered {
 
 /// Passes of a desk's seats that were taken in one after another, for the close.
 ///
-/// Contracts see them as a `SeatsTaken`: the `table` of the seats that they are of, their `numbers`, the last first, and `got`, the numbers that they took.
+/// Contracts see them as a `SeatsTaken`: the `table` of the seats that they are of, their `numbers`, the last first,
+/// and `got`, the numbers that they took.
 #[derive(Drop)]
 pub struct SeatGathering {
     pub(crate) about: Snapshot<DeskSeats>,
@@ -64,7 +65,7 @@ impl Gathered {
     ghost use Rattle.desk_seats.specs.Views.{gated_seats, parties_of, plain_seats};
     ghost use Rattle.desk_seats.specs.Taken.{got_in, numbers_in, AreTaken};
 
-    // With one more pass, where there is no gate.
+    /// With one more pass, where there is no gate.
     fn with_plain(self, seats: &Seats, out: Out) -> Gathered
         requires own { out.table ≡ seats.now }
         requires taken { AreTaken (plain_seats seats.now) self }
@@ -79,7 +80,7 @@ impl Gathered {
         }
     }
 
-    // With one more pass, where there is a gate.
+    /// With one more pass, where there is a gate.
     fn with_gated(self, gate: &GatedSeats, out: GateOut) -> Gathered
         requires own { out.gate ≡ gate.now }
         requires taken { AreTaken (gated_seats gate.now) self }

@@ -16,7 +16,8 @@ use std::alloc::Global;
 use std::snapshot::Snapshot;
 
 impl DeskSeats {
-    /// The seats of a net, with no gate before them; the passes of the parties 0 to n-1, in order, none of which has had a seat; and what takes them in at the end.
+    /// The seats of a net, with no gate before them; the passes of the parties 0 to n-1, in order, none of which has
+    /// had a seat; and what takes them in at the end.
     ///
     /// It takes all memory that the seats ever need. NoMemory where there is not so much.
     pub fn make(
@@ -42,7 +43,8 @@ impl DeskSeats {
         Ok((seats, passes, gathering))
     }
 
-    /// The seats of n parties and k licences behind a fast gate, as many as the smaller of n and k; the passes of the parties 0 to n-1, in order, none of which has had a seat; and what takes them in at the end.
+    /// The seats of n parties and k licences behind a fast gate, as many as the smaller of n and k; the passes of the
+    /// parties 0 to n-1, in order, none of which has had a seat; and what takes them in at the end.
     ///
     /// It takes all memory that the seats ever need. NoMemory where there is not so much.
     pub fn make_gated(
@@ -76,7 +78,7 @@ impl DeskSeats {
     }
 }
 
-// The passes of the parties, whose room is there, where there is no gate.
+/// The passes of the parties, whose room is there, where there is no gate.
 fn lift_plain(outs: Vec<Out>, passes: &mut Vec<SeatOut>)
     requires { (passes.old.items ≡ []) × (vec_len outs ≤ vec_capacity passes.old) }
     ensures { passes.new.items ≡ map plain_pass outs.items }
@@ -88,7 +90,7 @@ fn lift_plain(outs: Vec<Out>, passes: &mut Vec<SeatOut>)
     }
 }
 
-// The passes of the parties, whose room is there, where there is a gate.
+/// The passes of the parties, whose room is there, where there is a gate.
 fn lift_gated(outs: Vec<GateOut>, passes: &mut Vec<SeatOut>)
     requires { (passes.old.items ≡ []) × (vec_len outs ≤ vec_capacity passes.old) }
     ensures { passes.new.items ≡ map guest_pass outs.items }

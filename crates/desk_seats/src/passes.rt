@@ -1,6 +1,8 @@
 //! The passes of a desk's seats, of one type for each kind of spot.
 //!
-//! None can be copied. Contracts see a pass as a `SeatPass`: the `table` of the seats that it is of, its party's `number` and `place`, and `got`, the numbers that the party took, in order; behind a gate also the `lane` that it is on.
+//! None can be copied. Contracts see a pass as a `SeatPass`: the `table` of the seats that it is of, its party's
+//! `number` and `place`, and `got`, the numbers that the party took, in order; behind a gate also the `lane` that it is
+//! on.
 ghost use Rattle.std.specs.Prelude.{◌≡◌, ◌<◌};
 ghost use Rattle.kex_core.specs.declared.place.Place.TheVariants.{Holding};
 ghost use Rattle.seat_names.specs.Turns.{pass_in_through};
@@ -12,7 +14,7 @@ use kex_words::{Entering, Hold, Out};
 use seat_names::{Seats, Through};
 use std::marker::Model;
 
-// The pass of each kind of seats.
+/// The pass of each kind of seats.
 #[derive(Drop)]
 pub(crate) enum OutKind {
     Plain(Out),
@@ -34,7 +36,7 @@ impl Model for SeatOut {
     ghost view = { λ o. out_in o.kind };
 }
 
-// The pass of each kind of seats.
+/// The pass of each kind of seats.
 #[derive(Drop)]
 pub(crate) enum EnteringKind {
     Plain(Entering),
@@ -56,7 +58,7 @@ impl Model for SeatEntering {
     ghost view = { λ e. entering_in e.kind };
 }
 
-// The pass of each kind of seats.
+/// The pass of each kind of seats.
 #[derive(Drop)]
 pub(crate) enum ThroughKind {
     Plain(Through),
@@ -78,7 +80,7 @@ impl Model for SeatThrough {
     ghost view = { λ t. through_in t.kind };
 }
 
-// The pass of each kind of seats.
+/// The pass of each kind of seats.
 #[derive(Drop)]
 pub(crate) enum HoldKind {
     Plain(Hold),
@@ -115,7 +117,7 @@ impl SeatOut {
         }
     }
 
-    // The pass of the seats, where there is no gate.
+    /// The pass of the seats, where there is no gate.
     pub(crate) fn plain(self, seats: &Seats) -> Out
         requires { self.table ≡ plain_seats seats.now }
         ensures own { result.table ≡ seats.now }
@@ -129,7 +131,7 @@ impl SeatOut {
         out
     }
 
-    // The pass of the gate, where there is one.
+    /// The pass of the gate, where there is one.
     pub(crate) fn gated(self, gate: &GatedSeats) -> GateOut
         requires { self.table ≡ gated_seats gate.now }
         ensures own { result.gate ≡ gate.now }
@@ -155,7 +157,7 @@ impl SeatEntering {
         None
     }
 
-    // The pass of the seats, where there is no gate.
+    /// The pass of the seats, where there is no gate.
     pub(crate) fn plain(self, seats: &Seats) -> Entering
         requires { self.table ≡ plain_seats seats.now }
         ensures own { result.table ≡ seats.now }
@@ -169,7 +171,7 @@ impl SeatEntering {
         entering
     }
 
-    // The pass of the gate, where there is one.
+    /// The pass of the gate, where there is one.
     pub(crate) fn gated(self, gate: &GatedSeats) -> GateEntering
         requires { self.table ≡ gated_seats gate.now }
         ensures own { result.guest.gate ≡ gate.now }
@@ -185,7 +187,7 @@ impl SeatEntering {
 }
 
 impl SeatThrough {
-    // The pass of the seats, where there is no gate.
+    /// The pass of the seats, where there is no gate.
     pub(crate) fn plain(self, seats: &Seats) -> Through
         requires { self.table ≡ plain_seats seats.now }
         ensures own { (pass_in_through result).table ≡ seats.now }
@@ -199,7 +201,7 @@ impl SeatThrough {
         through
     }
 
-    // The pass of the gate, where there is one.
+    /// The pass of the gate, where there is one.
     pub(crate) fn gated(self, gate: &GatedSeats) -> GateThrough
         requires { self.table ≡ gated_seats gate.now }
         ensures own { result.guest.gate ≡ gate.now }
@@ -237,7 +239,7 @@ impl SeatHold {
         }
     }
 
-    // The pass of the seats, where there is no gate.
+    /// The pass of the seats, where there is no gate.
     pub(crate) fn plain(self, seats: &Seats) -> Hold
         requires { self.pass.table ≡ plain_seats seats.now }
         ensures own { result.pass.table ≡ seats.now }
@@ -251,7 +253,7 @@ impl SeatHold {
         hold
     }
 
-    // The pass of the gate, where there is one.
+    /// The pass of the gate, where there is one.
     pub(crate) fn gated(self, gate: &GatedSeats) -> GateHold
         requires { self.pass.table ≡ gated_seats gate.now }
         ensures own { result.guest.gate ≡ gate.now }

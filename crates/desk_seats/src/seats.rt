@@ -12,7 +12,7 @@ use seat_names::Seats;
 use std::marker::Model;
 use std::sync::Wait;
 
-// The seats of each kind.
+/// The seats of each kind.
 #[derive(Drop)]
 pub(crate) enum SeatsKind {
     Plain(Seats),
@@ -21,7 +21,9 @@ pub(crate) enum SeatsKind {
 
 /// The seats of a desk, with a gate before them or without. Threads share them by reference.
 ///
-/// Contracts see them as a `SeatsView`: their `id` tells them from others, `net` is their net, and `gate` tells the gate before them from others, where there is one. Each call that takes a pass has the condition that the pass is of these seats. No call but `go_on` waits, and none but the making takes memory.
+/// Contracts see them as a `SeatsView`: their `id` tells them from others, `net` is their net, and `gate` tells the
+/// gate before them from others, where there is one. Each call that takes a pass has the condition that the pass is of
+/// these seats. No call but `go_on` waits, and none but the making takes memory.
 #[derive(Drop)]
 pub struct DeskSeats {
     pub(crate) kind: SeatsKind,
@@ -37,9 +39,11 @@ impl Model for DeskSeats {
 }
 
 impl DeskSeats {
-    /// A party begins to enter. Behind a gate it takes its place there, and gets the pass that it is to use; with no gate it makes no access.
+    /// A party begins to enter. Behind a gate it takes its place there, and gets the pass that it is to use; with no
+    /// gate it makes no access.
     ///
-    /// It is through exactly where the pass that it uses starts at Exit. Else its first access to a stage comes with [`turn`](DeskSeats::turn).
+    /// It is through exactly where the pass that it uses starts at Exit. Else its first access to a stage comes with
+    /// [`turn`](DeskSeats::turn).
     pub fn begin(&self, out: SeatOut) -> SeatTurn
         requires own { out.table ≡ self.now }
         ensures begins { Begins out result }
@@ -54,7 +58,8 @@ impl DeskSeats {
 
     /// One turn of a party among the stages: the one access that is due.
     ///
-    /// Again comes exactly where this access read the spin word and found the number of the pass, or was Dec with old 0, Mark, or Look with the counter below 0, or passed a stage whose next isn't Exit.
+    /// Again comes exactly where this access read the spin word and found the number of the pass, or was Dec with old
+    /// 0, Mark, or Look with the counter below 0, or passed a stage whose next isn't Exit.
     pub fn turn(&self, e: SeatEntering) -> SeatTurn
         requires own { e.table ≡ self.now }
         ensures turned { Turned e result }
@@ -88,7 +93,8 @@ impl DeskSeats {
 
     /// Goes on from a turn at any step: takes turns until the party is through, and then its seat.
     ///
-    /// It may wait forever. While it waits it spins a little, then lets other threads run, and then sleeps between its turns, for a millisecond at most.
+    /// It may wait forever. While it waits it spins a little, then lets other threads run, and then sleeps between its
+    /// turns, for a millisecond at most.
     pub fn go_on<R: Wait>(&self, rt: &R, turn: SeatTurn) -> SeatHold
         requires own { (pass_in_turn turn).table ≡ self.now }
         ensures place { result.pass.place ≡ Holding result.card.number }

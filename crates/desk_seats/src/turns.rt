@@ -19,7 +19,7 @@ pub enum SeatTurn {
 }
 
 impl SeatTurn {
-    // A turn at seats with no gate.
+    /// A turn at seats with no gate.
     pub(crate) fn of_plain(turn: Turn) -> SeatTurn
         ensures { result ≡ plain_turn turn }
     {
@@ -33,7 +33,7 @@ impl SeatTurn {
         }
     }
 
-    // A turn at seats behind a gate.
+    /// A turn at seats behind a gate.
     pub(crate) fn of_gated(turn: GateTurn) -> SeatTurn
         ensures { result ≡ gate_turn turn }
     {
@@ -47,7 +47,7 @@ impl SeatTurn {
         }
     }
 
-    // The turn of the seats, where there is no gate.
+    /// The turn of the seats, where there is no gate.
     pub(crate) fn plain(self, seats: &Seats) -> Turn
         requires { (pass_in_turn self).table ≡ plain_seats seats.now }
         ensures own { (names.pass_in_turn result).table ≡ seats.now }
@@ -59,7 +59,7 @@ impl SeatTurn {
         }
     }
 
-    // The turn of the gate, where there is one.
+    /// The turn of the gate, where there is one.
     pub(crate) fn gated(self, gate: &GatedSeats) -> GateTurn
         requires { (pass_in_turn self).table ≡ gated_seats gate.now }
         ensures own { (guest_in_turn result).gate ≡ gate.now }

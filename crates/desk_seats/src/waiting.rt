@@ -10,17 +10,18 @@ use std::sync::atomic::AtomicU64;
 use std::time::Duration;
 use std::{hint, thread};
 
-// so many turns in a row spin, those up to the second number yield, and the later ones sleep. The accesses of a path are fewer than the first number, so whoever took as many turns waits at a spin word
+/// So many turns in a row spin, those up to the second number yield, and the later ones sleep. The accesses of a path
+/// are fewer than the first number, so whoever took as many turns waits at a spin word.
 const SPINS: u32 = 1024;
 
 const YIELDS: u32 = 1536;
 
-// the first sleep of a wait and the longest
+/// The first sleep of a wait and the longest.
 const FIRST_NAP_MICROS: u64 = 50;
 
 const LONGEST_NAP_MICROS: u64 = 1000;
 
-// Takes turns until the session is through, and then its seat. It may wait forever.
+/// Takes turns until the session is through, and then its seat. It may wait forever.
 pub(crate) fn go_through<R: Wait>(rt: &R, gate: &GatedSeats, mut turn: GateTurn) -> GateHold
     requires own { (guest_in_turn turn).gate ≡ gate.now }
     ensures same { (result.guest ≡ guest_in_turn turn) × (result.fast ≡ fast_in_turn turn) × (result.met ≡ met_in_turn turn) }
@@ -41,7 +42,8 @@ pub(crate) fn go_through<R: Wait>(rt: &R, gate: &GatedSeats, mut turn: GateTurn)
     unreachable!()
 }
 
-// One round of a wait, of which there were so many before: a short spin, then a yield, then sleeps that grow. It gives the rounds with this one.
+/// One round of a wait, of which there were so many before: a short spin, then a yield, then sleeps that grow. It gives
+/// the rounds with this one.
 fn pause<R: Wait>(rt: &R, turns: u32) -> u32 {
     if turns < SPINS {
         hint::spin_loop();

@@ -1,4 +1,5 @@
-//! A worker of the daemon: it serves the links of a door, one after another, until a bell is heard or the door is broken.
+//! A worker of the daemon: it serves the links of a door, one after another, until a bell is heard or the door is
+//! broken.
 #![tactic(auto)]
 
 mod end;

@@ -60,10 +60,10 @@ fn turn<R: Wait, C: Counter, D: Door, K: Clock, G: Gate, B: Bell>(
 
 /// Serves the links of a door, one session after another, until the bell is heard or the door is broken.
 ///
-/// `pass` has one counter for each pool of the office, of that pool's desk, and none of them is holding or queued; so it is
-/// at the end too. A session never ends the worker: the bell is asked where nothing came for a while and where an accept
-/// failed. `Rung` comes only where it said yes there, `Broken` only where 1,000 accepts failed with no link between them.
-/// Each link goes back to the door. It takes no memory but what a desk's step takes.
+/// `pass` has one counter for each pool of the office, of that pool's desk, and none of them is holding or queued; so
+/// it is at the end too. A session never ends the worker: the bell is asked where nothing came for a while and where an
+/// accept failed. `Rung` comes only where it said yes there, `Broken` only where 1,000 accepts failed with no link
+/// between them. Each link goes back to the door. It takes no memory but what a desk's step takes.
 pub fn serve_door<R: Wait, C: Counter, D: Door, K: Clock, G: Gate, B: Bell>(
     rt: &R,
     office: &OfficeView<C::Desk>,

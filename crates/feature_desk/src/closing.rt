@@ -26,7 +26,8 @@ pub struct DeskTally {
 
 /// The end of a desk's log at which its entries come out, with the room that the close needs.
 ///
-/// Contracts see it as a `DeskKeeperView`: the `book`'s keeper, for how many passes there is `room`, and of which `seats` the passes will be taken in.
+/// Contracts see it as a `DeskKeeperView`: the `book`'s keeper, for how many passes there is `room`, and of which
+/// `seats` the passes will be taken in.
 #[derive(Drop)]
 pub struct DeskKeeper {
     pub(crate) book: Keeper,
@@ -59,8 +60,8 @@ impl DeskKeeper {
 impl Desk {
     /// Takes all passes in, ends the desk's board, and tells the numbers of its whole history.
     ///
-    /// It takes no memory. It waits for those who read the board, and for nobody's turn. The cards of the seats were taken as
-    /// often as replies brought a seat.
+    /// It takes no memory. It waits for those who read the board, and for nobody's turn. The cards of the seats were
+    /// taken as often as replies brought a seat.
     pub fn close<R: Wait>(self, rt: &R, passes: Vec<DeskPass>, keeper: DeskKeeper) -> DeskTally
         requires count { vec_len passes ≡ self.lock.id.parties }
         requires all { AreClosable self passes.items }
@@ -71,11 +72,11 @@ impl Desk {
         tally
     }
 
-    /// Takes all passes in, ends the desk's board, and tells the numbers of its whole history, and the log of its first 4,096
-    /// entries.
+    /// Takes all passes in, ends the desk's board, and tells the numbers of its whole history, and the log of its first
+    /// 4,096 entries.
     ///
-    /// It takes no memory. It waits for those who read the board, and for nobody's turn. The cards of the seats were taken as
-    /// often as replies brought a seat.
+    /// It takes no memory. It waits for those who read the board, and for nobody's turn. The cards of the seats were
+    /// taken as often as replies brought a seat.
     pub fn close_with_log<R: Wait>(
         self,
         rt: &R,
@@ -105,7 +106,7 @@ impl Desk {
     }
 }
 
-// The passes of the book of all parties, in order; those of the seats are taken in.
+/// The passes of the book of all parties, in order; those of the seats are taken in.
 fn split(
     seats: &DeskSeats,
     mut gathering: SeatGathering,
@@ -133,7 +134,7 @@ fn split(
 }
 
 impl DeskPass {
-    // The two passes of a party that has no seat.
+    /// The two passes of a party that has no seat.
     fn into_parts(self) -> (BookPass, SeatOut)
         requires { Rests self }
         ensures same { (result.0 ≡ self.ticket) × (result.1 ≡ self.seat) }
@@ -151,7 +152,7 @@ impl DeskPass {
     }
 }
 
-// The uses of all cards together.
+/// The uses of all cards together.
 fn uses(cards: &[Card]) -> u64
     ensures { result ≡ sum_by (λ c. c.uses) cards.now % 2 ^ 64 }
 {

@@ -25,7 +25,8 @@ use turn_lock::Turns;
 
 /// The desk of a pool, which threads share by reference.
 ///
-/// Contracts see it as a `DeskView`: the lock of its book, with the rule sets as its law, and its seats. It can't be dropped, since its book can't: [`Desk::close`] ends it.
+/// Contracts see it as a `DeskView`: the lock of its book, with the rule sets as its law, and its seats. It can't be
+/// dropped, since its book can't: [`Desk::close`] ends it.
 pub struct Desk {
     pub(crate) turns: Turns<DeskBook>,
     pub(crate) seats: DeskSeats,
@@ -42,14 +43,14 @@ impl Model for Desk {
     ghost invariant = { IsDesk };
 }
 
-// Whether the reply to a request of this kind stands.
+/// Whether the reply to a request of this kind stands.
 pub(crate) fn answers(kind: &Kind) -> bool
     ensures { result ≡ is_none (set_asked kind.now) }
 {
     kind.set_asked().is_none()
 }
 
-// The standing answer to a question, after a reply that answers it or does not.
+/// The standing answer to a question, after a reply that answers it or does not.
 pub(crate) fn standing(answers: bool, now: bool, before: bool) -> bool
     ensures { result ≡ (if answers then now else before) }
 {
@@ -97,7 +98,7 @@ impl Desk {
         }
     }
 
-    // Makes the entry of a request of a party that held a seat before it or did not.
+    /// Makes the entry of a request of a party that held a seat before it or did not.
     pub(crate) fn enter<R: Wait>(
         &self,
         rt: &R,

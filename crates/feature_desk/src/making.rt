@@ -43,9 +43,11 @@ impl Desk {
         Desk::make_many(rt, alloc, sets, net)
     }
 
-    /// A desk in the opening state, with one to four rule sets of one count, over the seats of a net as wide as the count or the number of its parties; the passes of all parties, in order; and the keeper of its log.
+    /// A desk in the opening state, with one to four rule sets of one count, over the seats of a net as wide as the
+    /// count or the number of its parties; the passes of all parties, in order; and the keeper of its log.
     ///
-    /// It takes all memory that the desk ever needs, but what its board takes at the first entries. `NoMemory` comes where there is not so much. It waits for nobody, since the board has no reader yet.
+    /// It takes all memory that the desk ever needs, but what its board takes at the first entries. `NoMemory` comes
+    /// where there is not so much. It waits for nobody, since the board has no reader yet.
     pub fn make_many<R: Wait>(
         rt: &R,
         alloc: Global,
@@ -67,11 +69,14 @@ impl Desk {
         Desk::over(rt, alloc, sets, parties, seats, outs, gathering)
     }
 
-    /// A desk in the opening state, with one to four rule sets of one count, over seats behind a fast gate, as many as the count or the number of its parties; the passes of all parties, in order; and the keeper of its log.
+    /// A desk in the opening state, with one to four rule sets of one count, over seats behind a fast gate, as many as
+    /// the count or the number of its parties; the passes of all parties, in order; and the keeper of its log.
     ///
-    /// A party that meets fewer others at the gate than there are seats goes past the tree. There are more than twice as many parties as seats, and the two numbers together are at most 256.
+    /// A party that meets fewer others at the gate than there are seats goes past the tree. There are more than twice
+    /// as many parties as seats, and the two numbers together are at most 256.
     ///
-    /// It takes all memory that the desk ever needs, but what its board takes at the first entries. `NoMemory` comes where there is not so much. It waits for nobody, since the board has no reader yet.
+    /// It takes all memory that the desk ever needs, but what its board takes at the first entries. `NoMemory` comes
+    /// where there is not so much. It waits for nobody, since the board has no reader yet.
     pub fn make_gated<R: Wait>(
         rt: &R,
         alloc: Global,
@@ -95,7 +100,7 @@ impl Desk {
         Desk::over(rt, alloc, sets, parties, seats, outs, gathering)
     }
 
-    // A desk in the opening state over these seats, whose passes are all there and none of which was taken in.
+    /// A desk in the opening state over these seats, whose passes are all there and none of which was taken in.
     fn over<R: Wait>(
         rt: &R,
         alloc: Global,
@@ -130,7 +135,7 @@ impl Desk {
     }
 }
 
-// Pairs the passes of each party, in order.
+/// Pairs the passes of each party, in order.
 fn pair(
     turns: &Turns<DeskBook>,
     seats: &DeskSeats,

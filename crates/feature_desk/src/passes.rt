@@ -6,7 +6,7 @@ use desk_book::BookPass;
 use desk_seats::{SeatEntering, SeatHold, SeatOut};
 use std::marker::Model;
 
-// Where a party is at the seats.
+/// Where a party is at the seats.
 #[derive(Drop)]
 pub(crate) enum Chair {
     // At none.
@@ -40,7 +40,7 @@ impl Model for DeskPass {
 }
 
 impl DeskPass {
-    // The pass of a party that has asked nothing yet.
+    /// The pass of a party that has asked nothing yet.
     pub(crate) fn of(ticket: BookPass, out: SeatOut) -> DeskPass
         requires { (out.number ≡ ticket.number) × (ticket.mine ≡ []) × (out.got ≡ []) }
         ensures { result ≡ record { ticket = ticket; seat = out } }
@@ -97,14 +97,14 @@ impl Chair {
     ghost use Rattle.std.specs.Prelude.{false};
     ghost use Rattle.feature_desk.specs.Sittings.{is_entering, is_hold, pass_in, state_at, Sits};
 
-    // Whether a seat is held.
+    /// Whether a seat is held.
     pub(crate) fn is_hold(&self) -> bool
         ensures { result ≡ is_hold self.now }
     {
         matches!(self, Chair::Hold(_))
     }
 
-    // What is held.
+    /// What is held.
     pub(crate) fn state(&self) -> DeskState
         requires sits { Sits self.now }
         requires rests { is_entering self.now ≡ false }

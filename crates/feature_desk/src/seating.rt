@@ -19,7 +19,9 @@ use std::sync::Wait;
 impl Desk {
     /// Makes the party's seat agree with the entry that was noted. It may wait for a seat.
     ///
-    /// After Granted or Retaken a seat that is still held is left, and then a seat is entered. After Reread the seat is as it was. After another reply of holding the seat is held on. After any other reply a seat that is held is left.
+    /// After Granted or Retaken a seat that is still held is left, and then a seat is entered. After Reread the seat is
+    /// as it was. After another reply of holding the seat is held on. After any other reply a seat that is held is
+    /// left.
     pub fn match_seat<R: Wait>(&self, rt: &R, noted: Noted) -> (DeskPass, Asked)
         requires of { IsOf noted.sitter self.now }
         ensures matched { MatchedAs noted result.0 }
@@ -46,7 +48,9 @@ impl Desk {
 
     /// Takes one step of [`match_seat`](Desk::match_seat), and waits for nobody.
     ///
-    /// Where a seat has to be entered, the first step leaves a seat that is still held and begins to enter, and each further one takes one turn among the stages. Again comes exactly where that left the party among the stages. In every other case it does what `match_seat` does.
+    /// Where a seat has to be entered, the first step leaves a seat that is still held and begins to enter, and each
+    /// further one takes one turn among the stages. Again comes exactly where that left the party among the stages. In
+    /// every other case it does what `match_seat` does.
     pub fn turn_seat(&self, noted: Noted) -> Seating
         requires of { IsOf noted.sitter self.now }
         ensures steps { Steps noted result }
@@ -92,7 +96,7 @@ impl Desk {
         }
     }
 
-    // Makes the chair agree, where it lies.
+    /// Makes the chair agree, where it lies.
     pub(crate) fn reseat<R: Wait>(&self, rt: &R, chair: &mut Chair, asked: &Asked)
         requires own { (pass_in chair.old).table ≡ self.now.seats }
         requires sits { Sits chair.old }
@@ -113,7 +117,7 @@ impl Desk {
         );
     }
 
-    // The chair that agrees.
+    /// The chair that agrees.
     fn seated<R: Wait>(&self, rt: &R, chair: Chair, brings: bool, held: bool) -> Chair
         requires own { (pass_in chair).table ≡ self.now.seats }
         requires sits { Sits chair }
@@ -134,7 +138,7 @@ impl Desk {
         }
     }
 
-    // Keeps what is held, or leaves it.
+    /// Keeps what is held, or leaves it.
     fn kept(&self, chair: Chair, held: bool) -> Chair
         requires own { (pass_in chair).table ≡ self.now.seats }
         requires sits { Sits chair }
@@ -149,7 +153,7 @@ impl Desk {
         if held { chair } else { self.left(chair) }
     }
 
-    // Leaves what is held.
+    /// Leaves what is held.
     fn left(&self, chair: Chair) -> Chair
         requires own { (pass_in chair).table ≡ self.now.seats }
         requires sits { Sits chair }
@@ -167,7 +171,7 @@ impl Desk {
         }
     }
 
-    // One step towards a seat: what is held is left, and the party begins to enter; or it takes its turn.
+    /// One step towards a seat: what is held is left, and the party begins to enter; or it takes its turn.
     fn stepped(&self, chair: Chair) -> SeatTurn
         requires own { (pass_in chair).table ≡ self.now.seats }
         requires sits { Sits chair }
@@ -187,7 +191,7 @@ impl Desk {
     }
 }
 
-// Whether a reply brings a seat.
+/// Whether a reply brings a seat.
 fn brings_seat(reply: &Reply) -> bool
     ensures { result ≡ brings_seat reply.now }
 {

@@ -38,8 +38,8 @@ impl Model for Licence {
 }
 
 impl Licence {
-    /// The pools, in the order of their first lines. There are 64 at most, each has from 1 to 65,535 licences, and no two
-    /// are of one name, version and expiry.
+    /// The pools, in the order of their first lines. There are 64 at most, each has from 1 to 65,535 licences, and no
+    /// two are of one name, version and expiry.
     pub fn pools(&self) -> &[Pool]
         ensures pools { result.now ≡ self.now.pools }
         ensures few { length self.now.pools ≤ 64 }
@@ -56,9 +56,9 @@ impl Licence {
         self.notes.as_slice()
     }
 
-    /// Which pool serves a checkout of a version of a feature at a moment, in seconds since 1970-01-01 UTC: the first one
-    /// of that name, in the order of the file, whose version is at least the asked one and that hasn't expired. A pool is
-    /// good to the end of its day in UTC. Versions are compared as decimal numbers (this project).
+    /// Which pool serves a checkout of a version of a feature at a moment, in seconds since 1970-01-01 UTC: the first
+    /// one of that name, in the order of the file, whose version is at least the asked one and that hasn't expired. A
+    /// pool is good to the end of its day in UTC. Versions are compared as decimal numbers (this project).
     pub fn find(&self, name: &Name, version: Version, moment: u64) -> Found
         ensures found { result ≡ route self.now.pools name.now version.key moment }
         ensures there { IsThere (length self.now.pools) result }
@@ -77,8 +77,8 @@ fn take_line(draft: &mut Draft, line: Result<Line<'_>, TextFault>) -> Result<(),
     take(draft, &said)
 }
 
-/// Reads a licence file (the profile of FlexNet's licence lines that is this project's own): its pools and notes, or the
-/// fault of its first line at fault. It makes one pass over the file. Want of memory may be answered at any line.
+/// Reads a licence file (the profile of FlexNet's licence lines that is this project's own): its pools and notes, or
+/// the fault of its first line at fault. It makes one pass over the file. Want of memory may be answered at any line.
 pub fn read_licence(alloc: Global, file: &[u8]) -> Result<Licence, LicenceFault>
     requires { length file.now < 2 ^ 32 }
     ensures { Reads (λ licence. licence) fault_told (licence_of file.now) result }

@@ -59,9 +59,9 @@ fn first_expiry(pools: &[Pool], name: &Name, version: Version) -> Option<Expiry>
         .map(|pool| pool.expiry)
 }
 
-/// Which of some pools serves a checkout at a moment, in seconds since 1970-01-01 UTC: the first that is of the name, of at
-/// least the version, and good at that moment. Where all that are of the name and new enough have expired, the answer has
-/// the expiry of the first of them. The rule is this project's own.
+/// Which of some pools serves a checkout at a moment, in seconds since 1970-01-01 UTC: the first that is of the name,
+/// of at least the version, and good at that moment. Where all that are of the name and new enough have expired, the
+/// answer has the expiry of the first of them. The rule is this project's own.
 pub fn find_pool(pools: &[Pool], name: &Name, version: Version, moment: u64) -> Found
     ensures found { result ≡ route pools.now name.now version.key moment }
     ensures there { IsThere (length pools.now) result }

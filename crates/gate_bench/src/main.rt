@@ -1,6 +1,8 @@
 //! Enters and leaves the seats behind a fast gate from several threads, to measure what a pair of calls costs.
 //!
-//! `gate_bench N K THREADS ROUNDS` makes a gate for N sessions and K licences, and the first THREADS of the N sessions enter and leave ROUNDS times each, every one in a thread of its own. It prints the number of the pairs, so that a lost one shows, and how many of them went the fast way: all of them, where there are at most K threads.
+//! `gate_bench N K THREADS ROUNDS` makes a gate for N sessions and K licences, and the first THREADS of the N sessions
+//! enter and leave ROUNDS times each, every one in a thread of its own. It prints the number of the pairs, so that a
+//! lost one shows, and how many of them went the fast way: all of them, where there are at most K threads.
 #![tactic(auto)]
 
 ghost use Rattle.std.specs.Prelude.{◌≡◌};
@@ -29,7 +31,7 @@ impl Pairs {
 
 const NONE: Pairs = Pairs { all: 0, fast: 0 };
 
-// Enters and leaves so often, and counts.
+/// Enters and leaves so often, and counts.
 fn come_and_go<R: Wait>(rt: &R, gate: &GatedSeats, mut out: GateOut, rounds: u32) -> Pairs
     requires { out.gate ≡ gate.now }
 {

@@ -9,8 +9,8 @@ use std::marker::Model;
 /// By what a print is multiplied for each byte: a multiplier of Knuth's for numbers of 64 bits.
 const FACTOR: u64 = 6_364_136_223_846_793_005;
 
-/// What a membership says: the bytes of the member's name, whether it is a host, and the bytes of the group's name. Its print
-/// is a number made of them, which differs for most that differ.
+/// What a membership says: the bytes of the member's name, whether it is a host, and the bytes of the group's name. Its
+/// print is a number made of them, which differs for most that differ.
 #[derive(Drop)]
 pub(crate) struct Listing<'a> {
     pub(crate) print: u64,
@@ -66,8 +66,8 @@ pub(crate) fn listed<'a>(of_hosts: bool, group: &'a Name, member: &'a Name) -> L
 }
 
 impl Listing<'_> {
-    /// The order of listings: by their prints, and those of one print by the member's name, users before hosts, and then by
-    /// the group's name.
+    /// The order of listings: by their prints, and those of one print by the member's name, users before hosts, and
+    /// then by the group's name.
     pub(crate) fn order(&self, other: &Listing<'_>) -> Ordering
         ensures { result ≡ listing_cmp self.now other.now }
     {

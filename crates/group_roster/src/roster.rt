@@ -14,8 +14,8 @@ use std::cmp::Ordering;
 use std::marker::Model;
 use std::sync::Arc;
 
-/// A member of a group line: its print, and the places of both, from 0: that of the line among its file's, and that of the
-/// member among the line's.
+/// A member of a group line: its print, and the places of both, from 0: that of the line among its file's, and that of
+/// the member among the line's.
 #[derive(Clone, Copy)]
 struct Membership {
     print: u64,
@@ -117,7 +117,8 @@ fn has(groups: &[Group], all: &[Membership], sought: &Listing<'_>) -> bool
         .is_ok()
 }
 
-/// The groups of an options file, which a clause sees as their list, and their memberships in the order of what they say.
+/// The groups of an options file, which a clause sees as their list, and their memberships in the order of what they
+/// say.
 #[derive(Drop)]
 struct Members {
     groups: Vec<Group>,
@@ -165,9 +166,9 @@ impl Members {
     }
 }
 
-/// Who is in the groups of an options file, which a clause sees as the list of the groups. Who is in a group is looked up in
-/// as many steps as the number of members has bits. What it keeps is shared by those that `share` makes, so those cost
-/// next to nothing.
+/// Who is in the groups of an options file, which a clause sees as the list of the groups. Who is in a group is looked
+/// up in as many steps as the number of members has bits. What it keeps is shared by those that `share` makes, so those
+/// cost next to nothing.
 #[derive(Drop)]
 pub struct Roster {
     members: Arc<Members, Global>,
@@ -194,8 +195,8 @@ impl Roster {
         })
     }
 
-    /// A further owner of the same groups. The one error is want of memory, which comes only at more owners than a memory
-    /// has room for.
+    /// A further owner of the same groups. The one error is want of memory, which comes only at more owners than a
+    /// memory has room for.
     pub fn share(&self) -> Result<Roster, NoMemory>
         ensures { IfOk result (λ other. other ≡ self.now) }
     {

@@ -1,12 +1,12 @@
 //! Nets of stages, and the machine that gives at most k of N parties different numbers below k.
 //!
-//! The stages and the renaming are after J. Anderson and M. Moir, "Using Local-Spin k-Exclusion
-//! Algorithms to Improve Wait-Free Object Implementations", Distributed Computing 11, 1997. The
-//! exact listing, and nets of stages in this form, are this project's.
+//! The stages and the renaming are after J. Anderson and M. Moir, "Using Local-Spin k-Exclusion Algorithms to Improve
+//! Wait-Free Object Implementations", Distributed Computing 11, 1997. The exact listing, and nets of stages in this
+//! form, are this project's.
 //!
-//! A [`Net`] is a valid net. A [`World`] is a machine on it: the parties' places and the words
-//! that they share. One step of a party is one access to one word. The laws of the machine are
-//! the contracts of the functions in `laws`, which do nothing.
+//! A [`Net`] is a valid net. A [`World`] is a machine on it: the parties' places and the words that they share. One
+//! step of a party is one access to one word. The laws of the machine are the contracts of the functions in `laws`,
+//! which do nothing.
 #![tactic(auto)]
 
 mod fault;

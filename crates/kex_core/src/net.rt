@@ -13,12 +13,12 @@ use no_memory::NoMemory;
 use std::alloc::Global;
 use std::marker::Model;
 
-/// A valid net of stages: how many parties it has, how many numbers it gives, each stage's
-/// capacity and next stage, and each party's start.
+/// A valid net of stages: how many parties it has, how many numbers it gives, each stage's capacity and next stage, and
+/// each party's start.
 ///
-/// Contracts see the lists from which it was made, or through `plan` the functions that they are.
-/// The number of stages means Exit. The stages are after Anderson and Moir, Distributed Computing
-/// 11, 1997; nets of them in this form are this project's.
+/// Contracts see the lists from which it was made, or through `plan` the functions that they are. The number of stages
+/// means Exit. The stages are after Anderson and Moir, Distributed Computing 11, 1997; nets of them in this form are
+/// this project's.
 #[derive(Drop)]
 pub struct Net {
     parties: u32,
@@ -39,9 +39,8 @@ impl Model for Net {
 impl Net {
     /// The net of n parties and m numbers with these capacities, next stages and starts.
     ///
-    /// In `next` and `start` the number of stages means Exit. It is refused exactly where it
-    /// isn't valid, by the first test that fails, in the order Size, BadNext, BadStart, BadCap,
-    /// Overfull, OverfullExit (this project's order).
+    /// In `next` and `start` the number of stages means Exit. It is refused exactly where it isn't valid, by the first
+    /// test that fails, in the order Size, BadNext, BadStart, BadCap, Overfull, OverfullExit (this project's order).
     pub fn of(
         n: u32,
         m: u32,
@@ -79,8 +78,7 @@ impl Net {
         self.parties
     }
 
-    /// How many numbers there are, and so the most that may hold one: from 1 to the number of
-    /// parties.
+    /// How many numbers there are, and so the most that may hold one: from 1 to the number of parties.
     pub fn width(&self) -> u32
         ensures { result ≡ self.now.width }
     {
@@ -103,14 +101,14 @@ impl Net {
         self.caps[j as usize]
     }
 
-    // the stored counters of the opening world: each capacity and one
+    /// The stored counters of the opening world: each capacity and one.
     pub(crate) fn counters(&self, alloc: Global) -> Result<Vec<u64>, NoMemory>
         ensures { IfOk result (λ v. v.items ≡ map (λ c. c + 1) self.now.caps) }
     {
         Ok(self.caps.iter().map(|c| u64::from(*c) + 1).collect(alloc)?)
     }
 
-    // the next stage of j, or the number of stages
+    /// The next stage of j, or the number of stages.
     fn next_or_exit(&self, j: u32) -> u32
         requires { j < (plan self.now).stages }
         ensures { result ≡ (plan self.now).next j }
@@ -118,7 +116,7 @@ impl Net {
         self.next[j as usize]
     }
 
-    // the start of p, or the number of stages
+    /// The start of p, or the number of stages.
     fn start_or_exit(&self, p: u32) -> u32
         requires { p < self.now.parties }
         ensures { result ≡ (plan self.now).start p }
@@ -169,7 +167,7 @@ impl Net {
         None
     }
 
-    // how many may come to j
+    /// How many may come to j.
     fn room(&self, j: u32) -> u64
         requires { j ≤ (plan self.now).stages }
         ensures { starts (plan self.now) j + feeds (plan self.now) j ≤ result }
@@ -182,7 +180,7 @@ impl Net {
         }
     }
 
-    // the stage in front of j, where as many come from there as may come to j, so that nobody else does
+    /// The stage in front of j, where as many come from there as may come to j, so that nobody else does.
     fn sole_feeder(&self, j: u32) -> Option<u32>
         requires { j ≤ (plan self.now).stages }
         ensures { IfSome result (λ i. (i < (plan self.now).stages) × ((plan self.now).next i ≡ j) × (starts (plan self.now) j + feeds (plan self.now) j ≤ (plan self.now).cap i)) }
@@ -198,7 +196,7 @@ impl Net {
         }
     }
 
-    // the stage before j on p's path, where j isn't p's start
+    /// The stage before j on p's path, where j isn't p's start.
     fn behind(&self, p: u32, j: u32) -> u32
         requires party { p < self.now.parties }
         requires stage { j ≤ (plan self.now).stages }
@@ -213,7 +211,7 @@ impl Net {
         self.walked(p, j)
     }
 
-    // the same, by going along the path
+    /// The same, by going along the path.
     fn walked(&self, p: u32, j: u32) -> u32
         requires party { p < self.now.parties }
         requires stage { j ≤ (plan self.now).stages }
@@ -232,8 +230,8 @@ impl Net {
         i
     }
 
-    /// The place of a party that has passed stage j: Dec of the next stage, or at Exit the first
-    /// of the names, which where the width is 1 needs no test.
+    /// The place of a party that has passed stage j: Dec of the next stage, or at Exit the first of the names, which
+    /// where the width is 1 needs no test.
     pub fn passed(&self, j: u32) -> Place
         requires { j < (plan self.now).stages }
         ensures { result ≡ passed (plan self.now) j }
@@ -250,8 +248,8 @@ impl Net {
         }
     }
 
-    /// The place to which p goes back from j, a stage on its path or, as the number of stages,
-    /// Exit: Inc of the stage before, or Out.
+    /// The place to which p goes back from j, a stage on its path or, as the number of stages, Exit: Inc of the stage
+    /// before, or Out.
     pub fn back(&self, p: u32, j: u32) -> Place
         requires party { p < self.now.parties }
         requires stage { j ≤ (plan self.now).stages }
@@ -283,7 +281,7 @@ impl Net {
         }
     }
 
-    // the place after the test of bit i, which was set unless `found` is 0
+    /// The place after the test of bit i, which was set unless `found` is 0.
     fn tested(&self, i: u32, found: u64) -> Place
         requires { i + 1 < self.now.width }
         ensures { result ≡ after (plan self.now) 0 (Place.Naming i) found }
@@ -300,8 +298,8 @@ impl Net {
 
     /// The place of p after the access of `place`, which found the number `found` in its word.
     ///
-    /// Counters are found as stored, one more than they stand for, and spin words as the party's
-    /// number and one. Of a write nothing that was found is used.
+    /// Counters are found as stored, one more than they stand for, and spin words as the party's number and one. Of a
+    /// write nothing that was found is used.
     pub fn after(&self, p: u32, place: Place, found: u64) -> Place
         requires party { p < self.now.parties }
         requires placed { Placed (plan self.now) p place }

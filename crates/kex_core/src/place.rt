@@ -1,7 +1,7 @@
 /// Where a party stands. The number is that of a stage, or a position among the names.
 ///
-/// The places are those of the stages and the renaming after Anderson and Moir, Distributed
-/// Computing 11, 1997, in this project's listing.
+/// The places are those of the stages and the renaming after Anderson and Moir, Distributed Computing 11, 1997, in this
+/// project's listing.
 #[derive(Clone, Copy, PartialEq, Eq, Debug)]
 pub enum Place {
     /// It has not begun, or has come back. Its next access is that of its start.

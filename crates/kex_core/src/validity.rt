@@ -6,7 +6,7 @@ ghost use Rattle.kex_core.specs.Faults.{Below, IsFirst, Refused};
 use crate::fault::NetFault;
 use crate::limits::{PARTY_LIMIT, STAGE_LIMIT};
 
-// whether the lists have the sizes of a net
+/// Whether the lists have the sizes of a net.
 fn is_sized(n: u32, m: u32, caps: &[u32], next: &[u32], start: &[u32]) -> bool
     ensures { IsTrue result ↔ ((2 ≤ n) × (n ≤ PARTY_LIMIT) × (1 ≤ m) × (m ≤ n) × (length caps.now ≤ STAGE_LIMIT) × (length next.now ≡ length caps.now) × (length start.now ≡ n)) }
 {
@@ -19,7 +19,7 @@ fn is_sized(n: u32, m: u32, caps: &[u32], next: &[u32], start: &[u32]) -> bool
         && start.len() == n as usize
 }
 
-// the first stage that doesn't lead to a later one or to Exit
+/// The first stage that doesn't lead to a later one or to Exit.
 fn first_bad_next(stages: u32, next: &[u32]) -> Option<u32>
     requires { length next.now ≡ stages }
     ensures { MatchOption result (Below stages (λ j. (j < slice_index next.now j) × (slice_index next.now j ≤ stages))) (IsFirst stages (λ j. (j < slice_index next.now j) × (slice_index next.now j ≤ stages))) }
@@ -33,7 +33,7 @@ fn first_bad_next(stages: u32, next: &[u32]) -> Option<u32>
     None
 }
 
-// the first party that starts neither at a stage nor at Exit
+/// The first party that starts neither at a stage nor at Exit.
 fn first_bad_start(n: u32, stages: u32, start: &[u32]) -> Option<u32>
     requires { length start.now ≡ n }
     ensures { MatchOption result (Below n (λ p. slice_index start.now p ≤ stages)) (IsFirst n (λ p. slice_index start.now p ≤ stages)) }
@@ -46,7 +46,7 @@ fn first_bad_start(n: u32, stages: u32, start: &[u32]) -> Option<u32>
     None
 }
 
-// the first stage that admits nobody
+/// The first stage that admits nobody.
 fn first_bad_cap(stages: u32, caps: &[u32]) -> Option<u32>
     requires { length caps.now ≡ stages }
     ensures { MatchOption result (Below stages (λ j. 1 ≤ slice_index caps.now j)) (IsFirst stages (λ j. 1 ≤ slice_index caps.now j)) }
@@ -59,7 +59,7 @@ fn first_bad_cap(stages: u32, caps: &[u32]) -> Option<u32>
     None
 }
 
-// how many parties start at j
+/// How many parties start at j.
 fn starts_at(n: u32, start: &[u32], j: u32) -> u64
     requires small { n ≤ PARTY_LIMIT }
     requires same { length start.now ≡ n }
@@ -75,7 +75,7 @@ fn starts_at(n: u32, start: &[u32], j: u32) -> u64
     total
 }
 
-// how many can come to j from the stages that lead there
+/// How many can come to j from the stages that lead there.
 fn feeds_of(caps: &[u32], next: &[u32], j: u32) -> u64
     requires small { length caps.now ≤ STAGE_LIMIT }
     requires same { length next.now ≡ length caps.now }
@@ -91,7 +91,7 @@ fn feeds_of(caps: &[u32], next: &[u32], j: u32) -> u64
     total
 }
 
-// the first stage to which more can come than its capacity and one
+/// The first stage to which more can come than its capacity and one.
 fn first_overfull(n: u32, stages: u32, caps: &[u32], next: &[u32], start: &[u32]) -> Option<u32>
     requires stages { length caps.now ≡ stages }
     requires small { length caps.now ≤ STAGE_LIMIT }
@@ -109,7 +109,7 @@ fn first_overfull(n: u32, stages: u32, caps: &[u32], next: &[u32], start: &[u32]
     None
 }
 
-// the first test that fails, if any does
+/// The first test that fails, if any does.
 pub(crate) fn fault_in(
     n: u32,
     m: u32,

@@ -11,7 +11,7 @@ use no_memory::NoMemory;
 use std::alloc::Global;
 use std::marker::Model;
 
-// the words that the parties share, and where each party stands
+/// The words that the parties share, and where each party stands.
 #[derive(Drop)]
 struct Words {
     places: Vec<Place>,
@@ -22,7 +22,7 @@ struct Words {
 }
 
 impl Words {
-    // what the access of this place finds in its word; of a write, what it writes
+    /// What the access of this place finds in its word; of a write, what it writes.
     fn found(&self, p: u32, place: Place) -> u64
         requires word { HasWord (length self.now.counters.items) (length self.now.bits.items) (length self.now.cards.items) place }
         requires words { length self.now.spin_words.items ≡ length self.now.counters.items }
@@ -38,7 +38,7 @@ impl Words {
         }
     }
 
-    // the access of this place changes its word
+    /// The access of this place changes its word.
     fn write(&mut self, p: u32, place: Place)
         requires word { HasWord (length self.old.counters.items) (length self.old.bits.items) (length self.old.cards.items) place }
         requires words { length self.old.spin_words.items ≡ length self.old.counters.items }
@@ -68,7 +68,7 @@ impl Words {
     }
 }
 
-// the kind of access that is due at a place, which isn't Out
+/// The kind of access that is due at a place, which isn't Out.
 fn access_at(place: Place) -> Access
     ensures { result ≡ access_of place }
 {
@@ -89,8 +89,8 @@ fn access_at(place: Place) -> Access
 
 /// A machine on a net: where each party stands, and the words that they share.
 ///
-/// The invariant holds of each value, so each is safe ([`World::laws`]). Contracts see the net and
-/// the lists of places and words, or through `machine` the functions that they are.
+/// The invariant holds of each value, so each is safe ([`World::laws`]). Contracts see the net and the lists of places
+/// and words, or through `machine` the functions that they are.
 #[derive(Drop)]
 pub struct World {
     net: Net,
@@ -106,8 +106,8 @@ impl Model for World {
 }
 
 impl World {
-    /// The opening world of a net: all parties are Out, each counter is at its stage's capacity,
-    /// no spin word names anybody, and all bits and card words are 0.
+    /// The opening world of a net: all parties are Out, each counter is at its stage's capacity, no spin word names
+    /// anybody, and all bits and card words are 0.
     ///
     /// NoMemory where there is no room for its lists.
     pub fn make(alloc: Global, net: Net) -> Result<World, NoMemory>
@@ -133,10 +133,9 @@ impl World {
         })
     }
 
-    /// The laws of each world, after whatever steps: the invariant holds, and so it is safe. At
-    /// most c have passed a stage of capacity c, at most as many as the width are inside, those
-    /// that hold have different numbers below the width, and whoever waits at a stage of capacity
-    /// c has c others in it.
+    /// The laws of each world, after whatever steps: the invariant holds, and so it is safe. At most c have passed a
+    /// stage of capacity c, at most as many as the width are inside, those that hold have different numbers below the
+    /// width, and whoever waits at a stage of capacity c has c others in it.
     pub fn laws(&self)
         ensures kept { Kept (plan self.now.net) (machine self.now) }
         ensures safe { Safe (plan self.now.net) (machine self.now) }

@@ -19,7 +19,9 @@ use std::alloc::Global;
 impl GatedSeats {
     /// Takes all passes of the gate in, and gives the cards back, in the order of their numbers.
     ///
-    /// The uses of card s are the number of times that the sessions had the seat s, modulo 2^64. So the uses of all cards together are as many as the visits of all sessions. Each number of a session is that of one pass. It takes no memory and waits for nobody.
+    /// The uses of card s are the number of times that the sessions had the seat s, modulo 2^64. So the uses of all
+    /// cards together are as many as the visits of all sessions. Each number of a session is that of one pass. It takes
+    /// no memory and waits for nobody.
     pub fn close(self, passes: Vec<GateOut>) -> Vec<Card>
         requires count { vec_len passes ≡ sessions self.seats.net }
         requires own { All (λ p. p.gate ≡ self) passes.items }
@@ -43,7 +45,7 @@ impl GatedSeats {
     }
 }
 
-// Joins all sessions into one, and takes their own passes in, the last session's first.
+/// Joins all sessions into one, and takes their own passes in, the last session's first.
 fn gather(seats: &Seats, table: &GateTable, mut passes: Vec<GateOut>) -> (Gathering, GateSeat)
     requires some { 0 < vec_len passes }
     requires told { table.now.shared.key.value ≡ seats.now }
@@ -69,7 +71,7 @@ fn gather(seats: &Seats, table: &GateTable, mut passes: Vec<GateOut>) -> (Gather
 }
 
 impl GateOut {
-    // the session's own pass, and its seat at the gate
+    /// The session's own pass, and its seat at the gate.
     fn open(self) -> (Out, GateSeat)
         ensures own { result.1.table_id ≡ self.gate.id }
         ensures idle { IsIdle result.0 self result.1.me }
@@ -80,7 +82,7 @@ impl GateOut {
     }
 }
 
-// Takes the passes of the gate in, out of their slots.
+/// Takes the passes of the gate in, out of their slots.
 fn take_passes(
     seats: &Seats,
     closed: &mut Closed<Option<Out>, Global>,

@@ -11,13 +11,15 @@ use std::alloc::Global;
 use std::marker::{Brand, PhantomData};
 use std::snapshot::Snapshot;
 
-/// The word that is read where a view is cut or joined, and where a pass leaves its slot or goes home. It is never written.
+/// The word that is read where a view is cut or joined, and where a pass leaves its slot or goes home. It is never
+/// written.
 pub(crate) const STILL: usize = 0;
 
 /// The word that counts down as sessions come: [`FULL`] and the number of seats, less those that are not Free.
 pub(crate) const ROOM: usize = 1;
 
-/// What is left in the count of room, or less, once as many sessions came as there are seats. There are never so many sessions that it falls below 0.
+/// What is left in the count of room, or less, once as many sessions came as there are seats. There are never so many
+/// sessions that it falls below 0.
 pub(crate) const FULL: u64 = 256;
 
 /// The word of bit i: 1 where the number i is a session's, and else 0.

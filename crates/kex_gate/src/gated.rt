@@ -19,7 +19,8 @@ use std::sync::Wait;
 
 /// The seats of a net behind a fast gate. Threads share them by reference.
 ///
-/// Contracts see them as a `Gate`: its `id` tells it from others, and `seats` are the seats behind it. Each call that takes a pass has the condition that the pass is of this gate. No call but `enter` waits, and none takes memory.
+/// Contracts see them as a `Gate`: its `id` tells it from others, and `seats` are the seats behind it. Each call that
+/// takes a pass has the condition that the pass is of this gate. No call but `enter` waits, and none takes memory.
 #[derive(Drop)]
 pub struct GatedSeats {
     pub(crate) seats: Seats,
@@ -41,9 +42,11 @@ impl Model for GatedSeats {
 }
 
 impl GatedSeats {
-    /// A session begins to enter: it takes its place at the gate and gets the pass that it is to use, and begins to enter the seats with that.
+    /// A session begins to enter: it takes its place at the gate and gets the pass that it is to use, and begins to
+    /// enter the seats with that.
     ///
-    /// It is fast where it met fewer others than there are seats, and it goes the slow way, with its own pass, where it met as many or more. Those are met who are not Free when it takes its place.
+    /// It is fast where it met fewer others than there are seats, and it goes the slow way, with its own pass, where it
+    /// met as many or more. Those are met who are not Free when it takes its place.
     pub fn begin(&self, out: GateOut) -> GateTurn
         requires own { out.gate ≡ self.now }
         ensures same { guest_in_turn result ≡ out }
@@ -107,7 +110,8 @@ impl GatedSeats {
         }
     }
 
-    /// Leaves: gives the seat back, then the pass of the gate where the session has one, and then its place at the gate. The seat is noted as the last that the session had, with the way that it came.
+    /// Leaves: gives the seat back, then the pass of the gate where the session has one, and then its place at the
+    /// gate. The seat is noted as the last that the session had, with the way that it came.
     pub fn leave(&self, hold: GateHold) -> GateOut
         requires own { hold.guest.gate ≡ self.now }
         ensures { result ≡ visited hold.guest hold.held.card.number hold.fast }
@@ -128,7 +132,7 @@ impl GatedSeats {
         }
     }
 
-    // Takes the session's place, and finds the pass that it is to use.
+    /// Takes the session's place, and finds the pass that it is to use.
     fn admit(&self, out: GateOut) -> (Out, Lane)
         requires own { out.gate ≡ self.now }
         ensures same { (result.1.guest ≡ out) × (result.1.pass ≡ result.0) }
@@ -150,7 +154,7 @@ impl GatedSeats {
         (pass, lane)
     }
 
-    // Gives a pass of the gate back, and the place.
+    /// Gives a pass of the gate back, and the place.
     fn retreat(&self, seat: &mut GateSeat, pass: Out)
         requires own { seat.old.table_id ≡ self.now.id }
         requires seats { seat.old.me.0.seats ≡ self.now.seats }

@@ -15,7 +15,8 @@ pub fn steps_keep_the_rule()
     ensures { (s : GateState) (id : ℕ) (v : View) (x : ℕ) → IsGate v.seats s → IsSeated s id v → IsGate v.seats (stepped_at s id v x v.spot) }
 {}
 
-/// At each moment at most as many sessions are let through as there are seats, at most one owns a number, no pass of the gate is with two of them, and whoever goes the slow way met as many others as there are seats.
+/// At each moment at most as many sessions are let through as there are seats, at most one owns a number, no pass of
+/// the gate is with two of them, and whoever goes the slow way met as many others as there are seats.
 pub fn gates_let_few_through()
     ensures few { (t : TableNet) (s : GateState) → IsGate t s → total within_in s.views ≤ t.net.width }
     ensures sole { (t : TableNet) (s : GateState) (i : ℕ) → IsGate t s → i < t.net.width → total (owns_in i) s.views ≤ 1 }

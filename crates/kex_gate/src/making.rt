@@ -18,7 +18,8 @@ use std::alloc::Global;
 use std::snapshot::Snapshot;
 
 impl GatedSeats {
-    /// A gate for n sessions and k licences, with the seats of the net `gated(n, k)` behind it, and the passes of the sessions 0 to n-1, in order. None of them has had a seat yet.
+    /// A gate for n sessions and k licences, with the seats of the net `gated(n, k)` behind it, and the passes of the
+    /// sessions 0 to n-1, in order. None of them has had a seat yet.
     ///
     /// It takes all memory that the gate ever needs. NoMemory where there is not so much.
     pub fn make(alloc: Global, n: u32, k: u32) -> Result<(GatedSeats, Vec<GateOut>), NoMemory>
@@ -52,7 +53,7 @@ impl GatedSeats {
         Ok((made, outs))
     }
 
-    // Deals the passes, whose room is there.
+    /// Deals the passes, whose room is there.
     fn deal(&self, seat: &mut GateSeat, mut own: Vec<Out>, outs: &mut Vec<GateOut>)
         requires own { seat.old.table_id ≡ self.now.id }
         requires opens { seat.old.me ≡ (maker self.now.seats 0, []) }
@@ -72,7 +73,7 @@ impl GatedSeats {
     }
 }
 
-// so many passes, each in its slot
+/// So many passes, each in its slot.
 fn gate_slots(alloc: Global, mut passes: Vec<Out>) -> Result<Vec<Option<Out>>, NoMemory>
     ensures count { IfOk result (λ v. vec_len v ≡ vec_len passes) }
     ensures slots { IfOk result (λ v. (k : ℕ) → k < vec_len passes → (p : Pass) → slice_get passes.items k ≡ Some p → slice_get v.items k ≡ Some (Some p)) }
@@ -85,7 +86,7 @@ fn gate_slots(alloc: Global, mut passes: Vec<Out>) -> Result<Vec<Option<Out>>, N
     Ok(slots)
 }
 
-// the words of a new gate of so many seats, where all sessions are Free
+/// The words of a new gate of so many seats, where all sessions are Free.
 fn opening_words(alloc: Global, width: u32) -> Result<Vec<u64>, NoMemory>
     requires { (1 ≤ width) × (width ≤ PARTY_LIMIT) }
     ensures wide { IfOk result (λ v. length v.items ≡ width + 1) }

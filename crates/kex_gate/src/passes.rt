@@ -1,6 +1,9 @@
 //! The passes of a gate, of one type for each kind of spot.
 //!
-//! None can be copied, and only the calls of a [`GatedSeats`](crate::GatedSeats) make them. Contracts see the session of a pass as a `Guest`: its `gate`, its `number` and the seats that it had, `visits`, in order, each with the way that it came. Of one that has entered they see whether it came by the `fast` way, how many others it `met` that were not Free when it took its place, and the pass of the seats that it uses.
+//! None can be copied, and only the calls of a [`GatedSeats`](crate::GatedSeats) make them. Contracts see the session
+//! of a pass as a `Guest`: its `gate`, its `number` and the seats that it had, `visits`, in order, each with the way
+//! that it came. Of one that has entered they see whether it came by the `fast` way, how many others it `met` that were
+//! not Free when it took its place, and the pass of the seats that it uses.
 ghost use Rattle.std.specs.Prelude.{◌≡◌, ◌+◌, ◌<◌, ◌≤◌, true, false, [], ◌∷◌};
 ghost use Rattle.seat_names.specs.Turns.{pass_in_turn};
 ghost use Rattle.kex_gate.specs.Passes.{sessions};
@@ -30,7 +33,8 @@ impl Model for GateOut {
     ghost invariant = { λ o. IsIdle o.own (guest_of o.seat.table_id o.seat.me.0) o.seat.me };
 }
 
-// What a session keeps while it uses a pass: its place at the gate, and its own pass where it came by the fast way. Contracts see it as the way that it came, with the pass as it was.
+/// What a session keeps while it uses a pass: its place at the gate, and its own pass where it came by the fast way.
+/// Contracts see it as the way that it came, with the pass as it was.
 #[derive(Drop)]
 pub(crate) struct Lane {
     pub own: Option<Out>,
@@ -49,7 +53,7 @@ impl Model for Lane {
 }
 
 impl Lane {
-    // which pass the session came with
+    /// Which pass the session came with.
     pub(crate) fn tells(&self)
         ensures table { self.now.pass.table ≡ self.now.guest.gate.seats }
         ensures fast { self.now.fast ≡ true → (sessions self.now.guest.gate.seats.net ≤ self.now.pass.number)
@@ -101,7 +105,8 @@ impl Model for GateThrough {
 
 /// The pass of a session that holds a seat. It owns a [`Hold`] of the seats, and with it the seat's card.
 ///
-/// Contracts see it as a `GateHeld`: the session, the way that it came, how many others it met, and the hold. So what is said of the holds of one table is said of it, word for word.
+/// Contracts see it as a `GateHeld`: the session, the way that it came, how many others it met, and the hold. So what
+/// is said of the holds of one table is said of it, word for word.
 #[derive(Drop)]
 pub struct GateHold {
     pub(crate) hold: Hold,
@@ -173,7 +178,7 @@ impl GateOut {
 }
 
 impl GateTurn {
-    // a turn of the seats by a session on this lane
+    /// A turn of the seats by a session on this lane.
     pub(crate) fn of(turn: Turn, lane: Lane) -> GateTurn
         requires on { GoesOn lane.pass (pass_in_turn turn) [] }
         ensures lane { (guest_in_turn result ≡ lane.guest) × (fast_in_turn result ≡ lane.fast) × (met_in_turn result ≡ lane.met) }

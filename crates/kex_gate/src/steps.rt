@@ -13,7 +13,7 @@ use crate::gated::GatedSeats;
 use kex_words::Out;
 
 impl GatedSeats {
-    // Take: lowers the count of room. What it found tells how many others it met, and so whether it is let through.
+    /// Take: lowers the count of room. What it found tells how many others it met, and so whether it is let through.
     pub(crate) fn take(&self, seat: &mut GateSeat) -> u64
         requires own { seat.old.table_id ≡ self.now.id }
         requires seats { seat.old.me.0.seats ≡ self.now.seats }
@@ -27,7 +27,7 @@ impl GatedSeats {
         self.table.shared.fetch_sub::<Takes>(seat, ROOM, 1)
     }
 
-    // Tests bits until one was clear, and gives its number. The last number has no bit.
+    /// Tests bits until one was clear, and gives its number. The last number has no bit.
     pub(crate) fn find(&self, seat: &mut GateSeat) -> u32
         requires own { seat.old.table_id ≡ self.now.id }
         requires seats { seat.old.me.0.seats ≡ self.now.seats }
@@ -44,7 +44,7 @@ impl GatedSeats {
         self.width - 1
     }
 
-    // Test: sets bit i, and says whether it was clear.
+    /// Test: sets bit i, and says whether it was clear.
     pub(crate) fn test(&self, seat: &mut GateSeat, i: u32) -> bool
         requires own { seat.old.table_id ≡ self.now.id }
         requires seats { seat.old.me.0.seats ≡ self.now.seats }
@@ -57,7 +57,7 @@ impl GatedSeats {
         bit == 0
     }
 
-    // PassOut: pass i of the gate leaves its slot.
+    /// PassOut: pass i of the gate leaves its slot.
     pub(crate) fn pass_out(&self, seat: &mut GateSeat, i: u32) -> Out
         requires own { seat.old.table_id ≡ self.now.id }
         requires seats { seat.old.me.0.seats ≡ self.now.seats }
@@ -74,7 +74,7 @@ impl GatedSeats {
         pass
     }
 
-    // PassIn: pass i goes home, and its last number is noted as a seat that the session had.
+    /// PassIn: pass i goes home, and its last number is noted as a seat that the session had.
     pub(crate) fn pass_in(&self, seat: &mut GateSeat, i: u32, pass: Out)
         requires own { seat.old.table_id ≡ self.now.id }
         requires seats { seat.old.me.0.seats ≡ self.now.seats }
@@ -89,7 +89,7 @@ impl GatedSeats {
         self.table.shared.load::<PassesIn>(seat, STILL);
     }
 
-    // Clear: clears bit i.
+    /// Clear: clears bit i.
     pub(crate) fn clear(&self, seat: &mut GateSeat, i: u32)
         requires own { seat.old.table_id ≡ self.now.id }
         requires seats { seat.old.me.0.seats ≡ self.now.seats }
@@ -101,7 +101,7 @@ impl GatedSeats {
         self.table.shared.store::<Clears>(seat, bit_word(i), 0);
     }
 
-    // Give: raises the count of room, by a session that was let through.
+    /// Give: raises the count of room, by a session that was let through.
     pub(crate) fn give(&self, seat: &mut GateSeat)
         requires own { seat.old.table_id ≡ self.now.id }
         requires seats { seat.old.me.0.seats ≡ self.now.seats }
@@ -113,7 +113,7 @@ impl GatedSeats {
         self.table.shared.fetch_add::<Gives>(seat, ROOM, 1);
     }
 
-    // The same by a session that went the slow way, which notes the number of the seat that it had.
+    /// The same by a session that went the slow way, which notes the number of the seat that it had.
     pub(crate) fn give_slow<J: Noting>(&self, seat: &mut GateSeat, number: u32)
         requires own { seat.old.table_id ≡ self.now.id }
         requires seats { seat.old.me.0.seats ≡ self.now.seats }

@@ -7,10 +7,9 @@ ghost use Rattle.kex_net.specs.Trees.{IsTree};
 ghost use Rattle.kex_net.specs.Gates.{IsGated};
 ghost use Rattle.kex_net.specs.Limits.{limit};
 
-/// The laws of each tree, m being the smaller of k and n. It is a valid net, it has n - m stages,
-/// and a party has at most m of them on its path for each level. So after every schedule a party
-/// has made, since it was last out and but for reads of spin words, at most 3·m·levels + m
-/// accesses up to holding, and 5·m·levels + m + 1 while it leaves.
+/// The laws of each tree, m being the smaller of k and n. It is a valid net, it has n - m stages, and a party has at
+/// most m of them on its path for each level. So after every schedule a party has made, since it was last out and but
+/// for reads of spin words, at most 3·m·levels + m accesses up to holding, and 5·m·levels + m + 1 while it leaves.
 pub fn trees_are_short()
     ensures valid { (n k : ℕ) (s : Sheet) → 2 ≤ n → n ≤ PARTY_LIMIT → 1 ≤ k → IsTree n k s → IsNet s }
     ensures stages { (n k : ℕ) (s : Sheet) → 2 ≤ n → n ≤ PARTY_LIMIT → 1 ≤ k → IsTree n k s → length s.caps + min k n ≡ n }
@@ -19,9 +18,9 @@ pub fn trees_are_short()
         → firsts (plan s) p schedule (opening (plan s)) 0 ≤ limit (t.levels * min k n) (min k n) ((run (plan s) schedule (opening (plan s))).place p) }
 {}
 
-/// The laws of each net behind a fast gate, m being the smaller of k and n. It is a valid net, it
-/// has n stages, and a party of the gate, one from n on, has at most m of them on its path. Each
-/// other has at most m for each level of the tree, and m more.
+/// The laws of each net behind a fast gate, m being the smaller of k and n. It is a valid net, it has n stages, and a
+/// party of the gate, one from n on, has at most m of them on its path. Each other has at most m for each level of the
+/// tree, and m more.
 pub fn gates_are_short()
     ensures valid { (n k : ℕ) (s : Sheet) → 2 ≤ n → 1 ≤ k → 2 * min k n < n → n + min k n ≤ PARTY_LIMIT → IsGated n k s → IsNet s }
     ensures stages { (n k : ℕ) (s : Sheet) → 2 ≤ n → 1 ≤ k → 2 * min k n < n → n + min k n ≤ PARTY_LIMIT → IsGated n k s → length s.caps ≡ n }

@@ -3,7 +3,7 @@ ghost use Rattle.kex_net.specs.Trees.{falling, leading};
 
 use kex_core::NoMemory;
 
-// adds the capacities of so many stages, which fall by one and end with m
+/// Adds the capacities of so many stages, which fall by one and end with m.
 pub(crate) fn push_falling(caps: &mut Vec<u32>, m: u32, count: u32) -> Result<(), NoMemory>
     requires { m + count < 2 ^ 32 }
     ensures { OnOk result (caps.new.items ≡ caps.old.items ++ falling m count) }
@@ -14,7 +14,7 @@ pub(crate) fn push_falling(caps: &mut Vec<u32>, m: u32, count: u32) -> Result<()
     Ok(())
 }
 
-// adds the next stages of so many from `first` on, each the one behind it, and the last one's `up`
+/// Adds the next stages of so many from `first` on, each the one behind it, and the last one's `up`.
 pub(crate) fn push_leading(
     next: &mut Vec<u32>,
     first: u32,

@@ -7,7 +7,7 @@ use crate::stages::{push_falling, push_leading};
 use kex_core::{Net, NoMemory};
 use std::alloc::Global;
 
-// the stages of some levels, and the stage that each group meets below them
+/// The stages of some levels, and the stage that each group meets below them.
 #[derive(Drop)]
 pub(crate) struct Stages {
     pub(crate) caps: Vec<u32>,
@@ -16,7 +16,7 @@ pub(crate) struct Stages {
 }
 
 impl Stages {
-    // the stages of a pair of groups with `both` parties, of which the first is `first`
+    /// The stages of a pair of groups with `both` parties, of which the first is `first`.
     fn push_pair(&mut self, m: u32, first: u32, both: u32, up: u32) -> Result<(), NoMemory>
         requires { first + both < 2 ^ 32 }
         ensures caps { OnOk result (self.new.caps.items ≡ self.old.caps.items ++ falling m (both - m)) }
@@ -33,7 +33,7 @@ impl Stages {
     }
 }
 
-// the sizes of the groups of n parties: m in each, and in the last one the rest
+/// The sizes of the groups of n parties: m in each, and in the last one the rest.
 fn bottom_sizes(alloc: Global, n: u32, m: u32) -> Result<Vec<u32>, NoMemory>
     requires some { 1 ≤ m }
     requires wide { m ≤ n }
@@ -56,7 +56,7 @@ fn total(sizes: &[u32]) -> u32
     sizes.iter().sum()
 }
 
-// the sizes of the groups above a level: what comes to it, less one for each of its stages
+/// The sizes of the groups above a level: what comes to it, less one for each of its stages.
 fn sizes_above(alloc: Global, m: u32, sizes: &[u32]) -> Result<Vec<u32>, NoMemory>
     requires { sum sizes.now < 2 ^ 32 }
     ensures value { IfOk result (λ v. v.items ≡ above m sizes.now) }
@@ -74,7 +74,7 @@ fn sizes_above(alloc: Global, m: u32, sizes: &[u32]) -> Result<Vec<u32>, NoMemor
     Ok(higher)
 }
 
-// the stages of one level, where the groups above it meet `ups`
+/// The stages of one level, where the groups above it meet `ups`.
 fn level(alloc: Global, m: u32, base: u32, sizes: &[u32], ups: &[u32]) -> Result<Stages, NoMemory>
     requires ups { length ups.now ≡ length (above m sizes.now) }
     requires room { base + sum sizes.now < 2 ^ 32 }
@@ -99,7 +99,7 @@ fn level(alloc: Global, m: u32, base: u32, sizes: &[u32], ups: &[u32]) -> Result
     Ok(stages)
 }
 
-// all levels over groups of these sizes, their stages numbered from `first` on
+/// All levels over groups of these sizes, their stages numbered from `first` on.
 pub(crate) fn levels_over(
     alloc: Global,
     m: u32,
@@ -127,7 +127,7 @@ pub(crate) fn levels_over(
     Ok(stages)
 }
 
-// each party's start: the stage that its group meets
+/// Each party's start: the stage that its group meets.
 pub(crate) fn starts(alloc: Global, n: u32, m: u32, meets: &[u32]) -> Result<Vec<u32>, NoMemory>
     requires some { 1 ≤ m }
     requires groups { length meets.now ≡ (n + m - 1) / m }
@@ -141,7 +141,7 @@ pub(crate) fn starts(alloc: Global, n: u32, m: u32, meets: &[u32]) -> Result<Vec
     Ok(start)
 }
 
-// the lists of a net
+/// The lists of a net.
 #[derive(Drop)]
 pub(crate) struct Lists {
     pub(crate) caps: Vec<u32>,
@@ -149,7 +149,7 @@ pub(crate) struct Lists {
     pub(crate) start: Vec<u32>,
 }
 
-// the lists of the tree
+/// The lists of the tree.
 pub(crate) fn tree_lists(alloc: Global, n: u32, k: u32) -> Result<Lists, NoMemory>
     requires two { 2 ≤ n }
     requires small { n ≤ PARTY_LIMIT }
@@ -168,21 +168,19 @@ pub(crate) fn tree_lists(alloc: Global, n: u32, k: u32) -> Result<Lists, NoMemor
     })
 }
 
-/// The tree for n parties and k licences. With m the smaller of k and n, the parties form groups
-/// of m in order, the last of which may be smaller. Level by level the first group is paired with
-/// the second, and so on, until one group is left; a last group without a partner goes up
-/// unchanged. A pair with sizes a and b becomes stages of the capacities a+b-1, a+b-2, .., m, each
-/// leading to the next, and the group above them has size m. The last stage of a pair leads to
-/// the first stage that the group above meets, or to Exit, and a party starts at the first stage
-/// that it meets, or at Exit. Stages are numbered level by level from the parties upwards, in a
-/// level from the left, in a pair by falling capacity.
+/// The tree for n parties and k licences. With m the smaller of k and n, the parties form groups of m in order, the
+/// last of which may be smaller. Level by level the first group is paired with the second, and so on, until one group
+/// is left; a last group without a partner goes up unchanged. A pair with sizes a and b becomes stages of the
+/// capacities a+b-1, a+b-2, .., m, each leading to the next, and the group above them has size m. The last stage of a
+/// pair leads to the first stage that the group above meets, or to Exit, and a party starts at the first stage that it
+/// meets, or at Exit. Stages are numbered level by level from the parties upwards, in a level from the left, in a pair
+/// by falling capacity.
 ///
-/// There are n - m stages, and at most m on each party's path in each level. The tree of stages
-/// is after Anderson and Moir, Distributed Computing 11, 1997; its pairing and numbering are this
-/// project's.
+/// There are n - m stages, and at most m on each party's path in each level. The tree of stages is after Anderson and
+/// Moir, Distributed Computing 11, 1997; its pairing and numbering are this project's.
 ///
-/// n is from 2 to 256, and k at least 1. NoMemory where there is no room for its lists, and for
-/// no other reason: [`Net::of`] can't refuse it.
+/// n is from 2 to 256, and k at least 1. NoMemory where there is no room for its lists, and for no other reason:
+/// [`Net::of`] can't refuse it.
 pub fn tree(alloc: Global, n: u32, k: u32) -> Result<Net, NoMemory>
     requires two { 2 ≤ n }
     requires small { n ≤ PARTY_LIMIT }

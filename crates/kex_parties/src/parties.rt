@@ -66,7 +66,7 @@ impl Parties {
     }
 }
 
-// The parties of these passes.
+/// The parties of these passes.
 fn parties_of(alloc: Global, table: &KexTable, passes: Vec<Out>) -> Result<Vec<Party>, NoMemory>
     requires { All (λ p. p.table ≡ table.now) passes.items }
     ensures own { IfOk result (λ v. All (IsOf table.now) v.items) }

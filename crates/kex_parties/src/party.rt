@@ -10,7 +10,7 @@ use kex_words::{Back, Entering, Hold, KexTable, Leaving, Named, Naming, Next, Ou
 use std::marker::Model;
 use std::mem;
 
-// A pass of one of the types.
+/// A pass of one of the types.
 #[derive(Drop)]
 enum Standing {
     Out(Out),
@@ -77,7 +77,7 @@ impl Party {
         *self = party.stepped(table);
     }
 
-    // The party after its next access.
+    /// The party after its next access.
     fn stepped(self, table: &KexTable) -> Party
         requires own { IsOf table.now self }
         ensures own { IsOf table.now result }
@@ -94,7 +94,7 @@ impl Party {
         }
     }
 
-    // The party of what an access on the way in led to.
+    /// The party of what an access on the way in led to.
     fn ahead(next: Next) -> Party
         ensures { result ≡ Some (pass_in_next next) }
     {
@@ -108,7 +108,7 @@ impl Party {
         }
     }
 
-    // The party that holds a seat.
+    /// The party that holds a seat.
     fn held(hold: Hold) -> Party
         ensures { result ≡ Some hold.pass }
     {
@@ -117,7 +117,7 @@ impl Party {
         }
     }
 
-    // The party of what an access on the way out led to.
+    /// The party of what an access on the way out led to.
     fn behind(back: Back) -> Party
         ensures { result ≡ Some (pass_in_back back) }
     {
@@ -131,7 +131,7 @@ impl Party {
     }
 }
 
-// The first access of a party that was Out.
+/// The first access of a party that was Out.
 fn begun(table: &KexTable, out: Out) -> Party
     requires own { out.table ≡ table.now }
     ensures own { IsOf table.now result }
@@ -144,7 +144,7 @@ fn begun(table: &KexTable, out: Out) -> Party
     }
 }
 
-// The access that is due among the stages.
+/// The access that is due among the stages.
 fn entered(table: &KexTable, entering: Entering) -> Next
     requires own { entering.table ≡ table.now }
     ensures own { (pass_in_next result).table ≡ table.now }
@@ -159,7 +159,7 @@ fn entered(table: &KexTable, entering: Entering) -> Next
     }
 }
 
-// The access that is due on the way out.
+/// The access that is due on the way out.
 fn left(table: &KexTable, leaving: Leaving) -> Back
     requires own { leaving.table ≡ table.now }
     ensures own { (pass_in_back result).table ≡ table.now }

@@ -1,8 +1,9 @@
-//! What the others do when one session stops between two calls at the seats of a desk, with a fast gate before them and without.
+//! What the others do when one session stops between two calls at the seats of a desk, with a fast gate before them and
+//! without.
 ghost use Rattle.std.specs.Prelude.{◌≡◌, All, Some};
 ghost use Rattle.desk_seats.specs.Turns.{pass_in_turn};
 
-use crate::stops::{STEP_LIMIT, ROUNDS, Stops};
+use crate::stops::{ROUNDS, STEP_LIMIT, Stops};
 use anyhow::{Result, ensure};
 use desk_seats::{DeskSeats, SeatEntering, SeatHold, SeatOut, SeatThrough, SeatTurn};
 use kex_core::NoMemory;

@@ -1,8 +1,17 @@
-//! Looks at every state of the k-assignment machine on some small chains, and at what the others do when one party stops, beside the proof that each state is safe: it shows that the machine of the proof is the one that was meant, and that the running words are this machine.
+//! Looks at every state of the k-assignment machine on some small chains, and at what the others do when one party
+//! stops, beside the proof that each state is safe: it shows that the machine of the proof is the one that was meant,
+//! and that the running words are this machine.
 //!
-//! For each chain it makes, from the opening on, each party's step in every state that was found, until there is no new one. It prints the states, the moves out of them, the moves that change nothing, the most seats that are held at once, and how many moves the last states are away.
+//! For each chain it makes, from the opening on, each party's step in every state that was found, until there is no new
+//! one. It prints the states, the moves out of them, the moves that change nothing, the most seats that are held at
+//! once, and how many moves the last states are away.
 //!
-//! For each net it stops each party after 0 to 12 accesses, and lets the others go on for 200 rounds, in the machine and by step calls on running words at once. Each access has to lead to the same place in both, and after it all parties have to stand safely: no more have passed a stage than it admits, no more are inside than there are seats, seats that are held differ, and whoever waits at a stage has as many others in it as that admits. It prints the runs, the seats that the others took, the runs in which they took none, and the most seats that were held at once. The same it does with the calls of a desk's seats, where a session stops after 0 to 12 calls.
+//! For each net it stops each party after 0 to 12 accesses, and lets the others go on for 200 rounds, in the machine
+//! and by step calls on running words at once. Each access has to lead to the same place in both, and after it all
+//! parties have to stand safely: no more have passed a stage than it admits, no more are inside than there are seats,
+//! seats that are held differ, and whoever waits at a stage has as many others in it as that admits. It prints the
+//! runs, the seats that the others took, the runs in which they took none, and the most seats that were held at once.
+//! The same it does with the calls of a desk's seats, where a session stops after 0 to 12 calls.
 //!
 //! `checks/states.py` counts the same by another program.
 #![tactic(auto)]

@@ -117,7 +117,8 @@ impl Seen {
         total
     }
 
-    /// Whether a holder has a number of its own below the width, and a waiter that is named as many others at its stage as that admits.
+    /// Whether a holder has a number of its own below the width, and a waiter that is named as many others at its stage
+    /// as that admits.
     fn is_party_safe(&self, net: &Net, party: u32) -> bool {
         match self.place(party) {
             Place::Holding(s) => s < net.width() && self.holders(net, s) == 1,
@@ -130,7 +131,8 @@ impl Seen {
         }
     }
 
-    /// Whether no more have passed a stage than it admits, no more are inside than the net is wide, and each party is safe.
+    /// Whether no more have passed a stage than it admits, no more are inside than the net is wide, and each party is
+    /// safe.
     pub(crate) fn is_safe(&self, net: &Net) -> bool {
         for j in 0..net.stages() {
             if self.count(net, Set::Passed, j, None) > net.cap(j) {

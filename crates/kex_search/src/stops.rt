@@ -120,7 +120,8 @@ impl Pair {
         })
     }
 
-    /// One party's next access, in both. They have to lead to the same place, and all parties have to stand safely there. Tells whether it took a seat.
+    /// One party's next access, in both. They have to lead to the same place, and all parties have to stand safely
+    /// there. Tells whether it took a seat.
     fn step(&mut self, party: u32) -> Result<bool>
         requires { party < self.old.net.parties }
         ensures { self.new.net ≡ self.old.net }

@@ -16,7 +16,8 @@ use std::marker::Model;
 
 /// Passes of a table that were taken in one after another, for its close.
 ///
-/// Contracts see them as a `TakenIn`: the `table` that they are of, their `numbers`, the last first, and `got`, the numbers that they took.
+/// Contracts see them as a `TakenIn`: the `table` that they are of, their `numbers`, the last first, and `got`, the
+/// numbers that they took.
 #[derive(Drop)]
 pub struct Gathering {
     seat: WordSeat,
@@ -62,7 +63,9 @@ impl KexTable {
 
     /// Gives the cards back, in the order of their numbers, once all passes of the table were taken in.
     ///
-    /// The uses of card s are the number of times that s was taken by the passes, modulo 2^64. So the uses of all cards together are as many as the numbers that the passes took. Each number of a party is that of one pass. It takes no memory and waits for nobody.
+    /// The uses of card s are the number of times that s was taken by the passes, modulo 2^64. So the uses of all cards
+    /// together are as many as the numbers that the passes took. Each number of a party is that of one pass. It takes
+    /// no memory and waits for nobody.
     pub fn close_gathered(self, gathering: Gathering) -> Vec<Card>
         requires own { gathering.table ≡ self }
         requires count { length gathering.numbers ≡ self.net.parties }
@@ -87,7 +90,9 @@ impl KexTable {
 
     /// Takes all passes of the table in, and gives the cards back, in the order of their numbers.
     ///
-    /// The uses of card s are the number of times that s was taken by the passes, modulo 2^64. So the uses of all cards together are as many as the numbers that the passes took. Each number of a party is that of one pass. It takes no memory and waits for nobody.
+    /// The uses of card s are the number of times that s was taken by the passes, modulo 2^64. So the uses of all cards
+    /// together are as many as the numbers that the passes took. Each number of a party is that of one pass. It takes
+    /// no memory and waits for nobody.
     pub fn close(self, passes: Vec<Out>) -> Vec<Card>
         requires count { vec_len passes ≡ self.net.parties }
         requires own { All (λ p. p.table ≡ self) passes.items }
@@ -102,7 +107,7 @@ impl KexTable {
         self.close_gathered(gathering)
     }
 
-    // Takes all passes in, the last first.
+    /// Takes all passes in, the last first.
     fn gather_all(&self, mut passes: Vec<Out>) -> Gathering
         requires some { 0 < vec_len passes }
         requires own { All (λ p. p.table ≡ self.now) passes.items }
@@ -123,7 +128,7 @@ impl KexTable {
 }
 
 impl Out {
-    // the seat of the pass
+    /// The seat of the pass.
     fn into_seat(self) -> WordSeat
         ensures own { result.table_id ≡ self.table.id }
         ensures sits { IsAtRest self result.me }
@@ -139,7 +144,7 @@ impl Out {
     }
 }
 
-// Moves the cards out of their slots, in order.
+/// Moves the cards out of their slots, in order.
 fn take_cards(closed: &mut Closed<Option<Card>, Global>, width: u32, cards: &mut Vec<Card>)
     requires full { IsFull closed.old.slots × (slots_len closed.old.slots ≡ width) }
     requires home { (s : ℕ) → s < width → (c : Card) × (get_elem? (slots_items closed.old.slots) s ≡ some (Some c)) }

@@ -34,7 +34,7 @@ impl KexTable {
         Ok((made, passes))
     }
 
-    // Deals the passes, whose room is there.
+    /// Deals the passes, whose room is there.
     fn deal(&self, seat: &mut WordSeat, passes: &mut Vec<Out>)
         requires own { seat.old.table_id ≡ self.now.id }
         requires opens { seat.old.me ≡ (maker self.now.net 0, []) }
@@ -55,7 +55,7 @@ impl KexTable {
     }
 }
 
-// the words of a new table: each counter is one more than its stage's capacity, and all others are 0
+/// The words of a new table: each counter is one more than its stage's capacity, and all others are 0.
 fn opening_words(alloc: Global, net: &Net) -> Result<Vec<u64>, NoMemory>
     ensures { IfOk result (λ v. OpensWords net.now v.items) }
 {
@@ -68,7 +68,7 @@ fn opening_words(alloc: Global, net: &Net) -> Result<Vec<u64>, NoMemory>
     Ok(words)
 }
 
-// so many cards that were never used, each in its slot
+/// So many cards that were never used, each in its slot.
 fn card_slots(alloc: Global, width: u32) -> Result<Vec<Option<Card>>, NoMemory>
     ensures count { IfOk result (λ v. vec_len v ≡ width) }
     ensures cards { IfOk result (λ v. EachIndex v.items (λ s. slice_get v.items s ≡ Some (Some (unused_card s)))) }

@@ -1,6 +1,8 @@
 //! The passes of a table, of one type for each kind of place.
 //!
-//! None can be copied, and only the calls of a [`KexTable`](crate::KexTable) make them. Contracts see a pass as a `Pass`: the `table` that it is of, its party's `number` and `place`, the accesses since the party was last Out, `firsts` but for reads of spin words and `spins` for these, and `got`, the numbers that the party took, in order.
+//! None can be copied, and only the calls of a [`KexTable`](crate::KexTable) make them. Contracts see a pass as a
+//! `Pass`: the `table` that it is of, its party's `number` and `place`, the accesses since the party was last Out,
+//! `firsts` but for reads of spin words and `spins` for these, and `got`, the numbers that the party took, in order.
 ghost use Rattle.std.specs.Prelude.{◌≡◌, ◌⊎◌, ◌<◌};
 ghost use Rattle.kex_core.specs.declared.place.Place.TheVariants.{Holding};
 ghost use Rattle.kex_words.specs.Passes.{Pass, Held, IsOut, EntersAt, kind_of, due_at, entering, naming, named, leaving, outside};
@@ -11,7 +13,7 @@ use crate::table::WordSeat;
 use kex_core::Place;
 use std::marker::Model;
 
-// a seat that has a party's view and no card
+/// A seat that has a party's view and no card.
 #[derive(Drop)]
 pub(crate) struct Seated {
     pub number: u32,
@@ -159,7 +161,7 @@ pub enum Back {
 }
 
 impl Seated {
-    // sorts a pass on its way in by the access that is due
+    /// Sorts a pass on its way in by the access that is due.
     pub(crate) fn sorted(self, due: Place) -> Next
         requires due { due ≡ due_at self }
         requires inside { (kind_of due ≡ entering) ⊎ (kind_of due ≡ naming) ⊎ ((kind_of due ≡ named) × (self.place ≡ due)) }
@@ -176,7 +178,7 @@ impl Seated {
         }
     }
 
-    // sorts a pass on its way out by its place
+    /// Sorts a pass on its way out by its place.
     pub(crate) fn left(self) -> Back
         requires outward { (kind_of self.place ≡ leaving) ⊎ ((kind_of self.place ≡ outside) × (self.firsts ≡ 0) × (self.spins ≡ 0)) }
         ensures same { pass_in_back result ≡ self }
@@ -210,7 +212,8 @@ impl Entering {
         self.seated.number
     }
 
-    /// Where the party stands: at Out, Dec, Mark, Look or Spin. At Out and at Dec the access of `dec` is due, at the others that of their name.
+    /// Where the party stands: at Out, Dec, Mark, Look or Spin. At Out and at Dec the access of `dec` is due, at the
+    /// others that of their name.
     pub fn place(&self) -> Place
         ensures place { result ≡ self.now.place }
         ensures kind { kind_of (due_at self.now) ≡ entering }

@@ -22,7 +22,9 @@ use std::time::Duration;
 
 /// The shared words of a net, and its cards. Threads share it by reference.
 ///
-/// Contracts see it as a `TableNet`: its `id` tells it from other tables, and `net` is its net. Each call that takes a pass has the condition that the pass is of this table. Each step call is one access to one shared word, waits for nobody and takes no memory; that access is the one that is due at the pass's place, by the listing of `kex_core`.
+/// Contracts see it as a `TableNet`: its `id` tells it from other tables, and `net` is its net. Each call that takes a
+/// pass has the condition that the pass is of this table. Each step call is one access to one shared word, waits for
+/// nobody and takes no memory; that access is the one that is due at the pass's place, by the listing of `kex_core`.
 #[derive(Drop)]
 pub struct KexTable {
     pub(crate) table: WordTable,
@@ -132,7 +134,8 @@ impl KexTable {
         self.next(number, place, counter, seat)
     }
 
-    /// Spin: reads the stage's spin word. The party stays exactly where it finds its own number, and else passes the stage. Where it stays, as many others are between as the stage admits.
+    /// Spin: reads the stage's spin word. The party stays exactly where it finds its own number, and else passes the
+    /// stage. Where it stays, as many others are between as the stage admits.
     pub fn spin(&self, e: Entering) -> Next
         requires own { e.table ≡ self.now }
         requires due { (j : ℕ) × (due_at e ≡ Spin j) }
@@ -155,7 +158,8 @@ impl KexTable {
         self.next(number, place, named, seat)
     }
 
-    /// Sleeps so long at most, where the party spins, and not at all where its stage's spin word has another number by now. It reads that word without telling what it found, and nobody wakes the sleeper.
+    /// Sleeps so long at most, where the party spins, and not at all where its stage's spin word has another number by
+    /// now. It reads that word without telling what it found, and nobody wakes the sleeper.
     pub fn nap<R: Wait>(&self, rt: &R, e: &Entering, time: Duration)
         requires own { e.now.table ≡ self.now }
     {
@@ -325,7 +329,7 @@ impl KexTable {
         self.back(number, place, leaver, seat)
     }
 
-    // the word of bit i
+    /// The word of bit i.
     fn bit_word(&self, i: u32) -> usize
         requires { i < self.now.net.width }
         ensures { result ≡ 2 * length self.now.net.caps + 1 + i }
@@ -333,7 +337,7 @@ impl KexTable {
         2 * self.net.stages() as usize + 1 + i as usize
     }
 
-    // the word of card s
+    /// The word of card s.
     fn card_word(&self, s: u32) -> usize
         requires { s < self.now.net.width }
         ensures { result ≡ 2 * length self.now.net.caps + self.now.net.width + s }
@@ -341,7 +345,7 @@ impl KexTable {
         2 * self.net.stages() as usize + self.net.width() as usize + s as usize
     }
 
-    // the pass of a seat whose party's access of `due` found the number
+    /// The pass of a seat whose party's access of `due` found the number.
     fn arrive(&self, number: u32, due: Place, found: u64, seat: WordSeat) -> Seated
         requires own { (pass_of seat.table_id seat.me.0).table ≡ self.now }
         requires pass { IsPass (pass_of seat.table_id seat.me.0) seat.me }
@@ -358,7 +362,7 @@ impl KexTable {
         }
     }
 
-    // the same on the way in, sorted
+    /// The same on the way in, sorted.
     fn next(&self, number: u32, due: Place, found: u64, seat: WordSeat) -> Next
         requires own { (pass_of seat.table_id seat.me.0).table ≡ self.now }
         requires pass { IsPass (pass_of seat.table_id seat.me.0) seat.me }
@@ -374,7 +378,7 @@ impl KexTable {
         seated.sorted(place)
     }
 
-    // the same on the way out, sorted
+    /// The same on the way out, sorted.
     fn back(&self, number: u32, due: Place, found: u64, seat: WordSeat) -> Back
         requires own { (pass_of seat.table_id seat.me.0).table ≡ self.now }
         requires pass { IsPass (pass_of seat.table_id seat.me.0) seat.me }

@@ -4,7 +4,7 @@ ghost use Rattle.lic_text.specs.Front.{joined_text, has_no_end, line_count, line
 
 use crate::physical::{cut_line, strip_last};
 
-// How far a logical line goes.
+/// How far a logical line goes.
 #[derive(Clone, Copy)]
 pub(crate) struct Extent<'a> {
     // Its bytes, a joining space in the place of each backslash.
@@ -17,7 +17,7 @@ pub(crate) struct Extent<'a> {
     pub(crate) rest: &'a [u8],
 }
 
-// The extent of the logical line that begins a text.
+/// The extent of the logical line that begins a text.
 pub(crate) fn measure(from: &[u8]) -> Extent<'_>
     requires { length from.now < 2 ^ 32 }
     ensures length { result.length ≡ length (joined_text (physical_lines from.now)) }

@@ -16,9 +16,9 @@ use crate::logical::Lines;
 ///   space stands in the place of the backslash.
 /// - A logical line without words is passed over.
 ///
-/// The lines end at the first fault. It is `LineTooLong` exactly where a logical line has more than 8,192 bytes, joining
-/// spaces counted and CR, LF and backslashes that continue not. It is `OpenContinuation` exactly where the file ends in
-/// a continued line that isn't too long, the space in the place of its last backslash counted.
+/// The lines end at the first fault. It is `LineTooLong` exactly where a logical line has more than 8,192 bytes,
+/// joining spaces counted and CR, LF and backslashes that continue not. It is `OpenContinuation` exactly where the file
+/// ends in a continued line that isn't too long, the space in the place of its last backslash counted.
 pub fn lines(file: &[u8]) -> Lines<'_>
     requires { length file.now < 2 ^ 32 }
     ensures { lines_left result ≡ lines_of file.now }

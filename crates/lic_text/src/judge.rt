@@ -4,10 +4,10 @@ ghost use Rattle.lic_text.specs.Lines.{fault_of};
 use crate::extent::Extent;
 use crate::fault::TextFault;
 
-// The most bytes of a logical line.
+/// The most bytes of a logical line.
 const LINE_LIMIT: usize = 8192;
 
-// The fault of the logical line with this number and extent.
+/// The fault of the logical line with this number and extent.
 pub(crate) fn fault_of(first: u32, extent: &Extent) -> Option<TextFault>
     ensures { result ≡ fault_of first extent.now.length extent.now.is_open }
 {

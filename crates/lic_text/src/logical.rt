@@ -18,7 +18,7 @@ pub struct Lines<'a> {
 impl<'a> Lines<'a> {
     ghost use Rattle.lic_text.specs.LinesLeft.{lines_left, item_view};
 
-    // Reads one comment or one logical line.
+    /// Reads one comment or one logical line.
     fn step(&mut self) -> Option<Result<Line<'a>, TextFault>>
         requires { 0 < length self.old.rest.now }
         ensures told { MatchOption result (lines_left self.old ≡ lines_left self.new)

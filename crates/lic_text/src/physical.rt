@@ -2,7 +2,7 @@ ghost use Rattle.std.specs.Prelude.{◌≡◌, ◌+◌, ◌<◌, ◌≤◌, ◌=
 ghost use Rattle.std.specs.List.{position_or_len};
 ghost use Rattle.lic_text.specs.Physical.{is_blank, ends_in, without_last, without_return, is_comment, physical_lines};
 
-// A space or a tab.
+/// A space or a tab.
 pub(crate) fn is_blank(b: u8) -> bool
     ensures { result ≡ is_blank b }
 {
@@ -27,7 +27,7 @@ fn first_other(bytes: &[u8]) -> Option<usize>
     bytes.iter().position(|b| !is_blank(*b))
 }
 
-// Where the first physical line ends: at its LF, or at the end of the text.
+/// Where the first physical line ends: at its LF, or at the end of the text.
 #[tactic(auto, using(crate::proofs::Ends::ends))]
 fn line_end(bytes: &[u8]) -> usize
     ensures place { result ≡ position_or_len (λ b. b == 10) bytes.now }
@@ -52,14 +52,14 @@ pub(crate) fn word_end(bytes: &[u8]) -> usize
     first_blank(bytes).unwrap_or(bytes.len())
 }
 
-// The text from its first word on.
+/// The text from its first word on.
 pub(crate) fn after_blanks(bytes: &[u8]) -> &[u8]
     ensures { result.now ≡ drop (position_or_len (λ b. not (is_blank b)) bytes.now) bytes.now }
 {
     &bytes[word_start(bytes)..]
 }
 
-// The text without this byte, where it ends in it.
+/// The text without this byte, where it ends in it.
 pub(crate) fn strip_last(text: &[u8], byte: u8) -> Option<&[u8]>
     ensures { MatchOption result (ends_in byte text.now ≡ false)
         (λ front. (ends_in byte text.now ≡ true) × (front.now ≡ without_last text.now)
@@ -81,7 +81,7 @@ fn without_return(text: &[u8]) -> &[u8]
     }
 }
 
-// The first byte that isn't blank.
+/// The first byte that isn't blank.
 fn first_mark(text: &[u8]) -> Option<u8>
     ensures { result ≡ find (λ b. not (is_blank b)) text.now }
 {
@@ -94,7 +94,7 @@ pub(crate) fn is_comment(text: &[u8]) -> bool
     first_mark(text) == Some(b'#')
 }
 
-// The first physical line, without its LF and the CR before that, and what stands after its LF.
+/// The first physical line, without its LF and the CR before that, and what stands after its LF.
 pub(crate) fn cut_line(bytes: &[u8]) -> (&[u8], &[u8])
     requires { 0 < length bytes.now }
     ensures cut { physical_lines bytes.now ≡ result.0.now ∷ physical_lines result.1.now }

@@ -19,7 +19,7 @@ impl<'a> Words<'a> {
     ghost use Rattle.std.specs.Iterator.{YieldsFirstBy};
     ghost use Rattle.lic_text.specs.Left.{words_left};
 
-    // The next word of the physical line that is read.
+    /// The next word of the physical line that is read.
     fn next_here(&mut self) -> Option<&'a [u8]>
         ensures further { self.new.further.now ≡ self.old.further.now }
         ensures word { YieldsFirstBy (λ word. word.now) words_of self.old.text.now result self.new.text.now }
@@ -34,7 +34,7 @@ impl<'a> Words<'a> {
         Some(word)
     }
 
-    // Goes on to the next physical line.
+    /// Goes on to the next physical line.
     fn go_on(&mut self)
         requires { 0 < length self.old.further.now }
         ensures words { words_left self.new ≡ words_of (joined_text (physical_lines self.old.further.now)) }

@@ -23,7 +23,8 @@ pub enum NameFault {
 }
 
 /// The name of a feature, a vendor, a user, a host, a display, a project or a group: 1 to 64 bytes from 33 to 126,
-/// which a clause sees as their list. Names are compared as exact bytes, and are in the order of their bytes (this project).
+/// which a clause sees as their list. Names are compared as exact bytes, and are in the order of their bytes (this
+/// project).
 #[derive(Clone, Copy)]
 pub struct Name {
     len: u8,

@@ -48,8 +48,8 @@ fn point_of(word: &[u8]) -> Option<usize>
 }
 
 impl Version {
-    /// The version that a word spells. `None` comes exactly where the word isn't 1 to 10 bytes of digits, or of
-    /// digits, a point and digits.
+    /// The version that a word spells. `None` comes exactly where the word isn't 1 to 10 bytes of digits, or of digits,
+    /// a point and digits.
     pub fn read(word: &[u8]) -> Option<Version>
         ensures { option_map (λ version. version.key) result ≡ key_of word.now }
     {

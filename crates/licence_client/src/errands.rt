@@ -15,8 +15,8 @@ const WAITING_SECONDS: u64 = 10;
 /// The most seconds between BEATs: a day.
 const SECONDS_LIMIT: u64 = 86_400;
 
-/// The errand of a command and the words behind it, at this pace. `None` comes exactly where there is no such command, or it
-/// takes another number of words.
+/// The errand of a command and the words behind it, at this pace. `None` comes exactly where there is no such command,
+/// or it takes another number of words.
 pub fn errand_of<'a>(command: &str, words: &'a [&'a str], pace: Pace) -> Option<Errand<'a>>
     ensures asked { IfSome result (IsAskedBy command.now (map (λ w. w.now) words.entry.now) pace) }
     ensures exactly { IsSome result ↔ IsTrue (takes command.now (length words.entry.now)) }
@@ -63,8 +63,8 @@ fn seconds_of(word: &str) -> Option<u64>
     }
 }
 
-/// How often a BEAT is asked, by the seconds that are given and by whether a seat is to be waited for: where none are given 300
-/// seconds with a seat and 10 without, and else a number from 1 to 86,400, or `None`.
+/// How often a BEAT is asked, by the seconds that are given and by whether a seat is to be waited for: where none are
+/// given 300 seconds with a seat and 10 without, and else a number from 1 to 86,400, or `None`.
 pub fn pace_of(seconds: Option<&str>, waits: bool) -> Option<Pace>
     ensures { result ≡ pace_of (option_copied seconds.entry) waits }
 {

@@ -20,8 +20,8 @@ fn read_out<I: Read>(input: &mut I) {
     }
 }
 
-/// A bell that rings once the input has ended. A thread of its own reads the input; it isn't waited for, since it may wait
-/// for its input when the program ends. `None` comes where there was no memory or no thread for it.
+/// A bell that rings once the input has ended. A thread of its own reads the input; it isn't waited for, since it may
+/// wait for its input when the program ends. `None` comes where there was no memory or no thread for it.
 pub fn bell_at_end<T: Threads, I: Read + Send + Drop + 'static>(
     threads: &T,
     alloc: Global,

@@ -116,7 +116,8 @@ fn read_dated(day: u8, month: u8, year: &[u8]) -> Option<Day>
     civil_day(read_year(year)?, month, day)
 }
 
-/// The day that a word names, as `31-dec-2026`. `None` comes exactly where the word isn't the expiry of a licence that ends.
+/// The day that a word names, as `31-dec-2026`. `None` comes exactly where the word isn't the expiry of a licence that
+/// ends.
 pub fn read_day(word: &[u8]) -> Option<Day>
     ensures { result ≡ last_day (expiry_of word.now) }
 {

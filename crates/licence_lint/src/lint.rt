@@ -37,13 +37,13 @@ fn perform<F: Files, O: Sink>(
 }
 
 /// Runs the program and ends with its status. `words` are those behind the program's name: `LICENCE OPTIONS`, with
-/// `--expires-within DAYS` and `--on DAY`, both or neither, in any order that clap takes; or `--help` or `--version`, whose text
-/// is clap's. A word that is no UTF-8 is no lint, and want of memory for the words is `NoMemory`.
+/// `--expires-within DAYS` and `--on DAY`, both or neither, in any order that clap takes; or `--help` or `--version`,
+/// whose text is clap's. A word that is no UTF-8 is no lint, and want of memory for the words is `NoMemory`.
 ///
-/// The advice on the two files goes to `out`, and for every status but `Done` and `Advised` one line goes to `err`; a fault there
-/// changes no status. `Done` comes without advice, and nothing is written then; `Advised` with some. The order is: the words, then
-/// file by file its reading, its length and its grammar, then the memory for the advice, and then the writing. Want of memory may
-/// come at each of these, but not after the first byte was written to `out`.
+/// The advice on the two files goes to `out`, and for every status but `Done` and `Advised` one line goes to `err`; a
+/// fault there changes no status. `Done` comes without advice, and nothing is written then; `Advised` with some. The
+/// order is: the words, then file by file its reading, its length and its grammar, then the memory for the advice, and
+/// then the writing. Want of memory may come at each of these, but not after the first byte was written to `out`.
 pub fn lint<F: Files, O: Sink, E: Sink>(
     alloc: Global,
     words: &Words,
@@ -58,13 +58,13 @@ pub fn lint<F: Files, O: Sink, E: Sink>(
     // Of words that are no lint nothing is written but a text that they ask for.
     ensures unlinted { lint_in words.now ≡ None → IsUnlinted (HasRisen (O.faults out.old) (O.faults out.new)) words.now (O.held out.old) (O.held out.new) result }
 
-    // The files of a lint are asked for in their order, each once, up to the one of which the status speaks, and only the reading
-    // of a read fault failed; without a lint none is asked for.
+    // The files of a lint are asked for in their order, each once, up to the one of which the status speaks, and only
+    // the reading of a read fault failed; without a lint none is asked for.
     ensures asked { Asks 1 (files_of (lint_in words.now)) (F.asked files.old) (F.asked files.new) (F.failed files.old) (F.failed files.new) (reading_in result) }
 
-    // What came of the files of a lint. On Done they are accepted and there is no advice on them; on Advised out gained exactly the
-    // text of the advice on them, and on WriteFault, where its count of faults rose, a front of it; else nothing. Each other status
-    // is of the first file at fault, with its fault.
+    // What came of the files of a lint. On Done they are accepted and there is no advice on them; on Advised out gained
+    // exactly the text of the advice on them, and on WriteFault, where its count of faults rose, a front of it; else
+    // nothing. Each other status is of the first file at fault, with its fault.
     ensures advice { ForLint (lint_in words.now) (F.contents files.old) (λ horizon told.
         IsLinted horizon (HasFailed (F.failed files.old) (F.failed files.new)) (HasRisen (O.faults out.old) (O.faults out.new)) told (O.held out.old) (O.held out.new) result) }
 

@@ -83,8 +83,8 @@ fn names_with<'a>(
     }
 }
 
-/// The lint of these values. `None` comes exactly where a file isn't named by a word that may name one, or where not both or none
-/// of `--expires-within` and `--on` are given, the first as a number up to 65,535 and the second as a day.
+/// The lint of these values. `None` comes exactly where a file isn't named by a word that may name one, or where not
+/// both or none of `--expires-within` and `--on` are given, the first as a number up to 65,535 and the second as a day.
 pub fn read_names<'a>(
     licence: Option<&'a str>,
     options: Option<&'a str>,

@@ -24,8 +24,8 @@ impl LintStatus {
     }
 }
 
-/// Writes the line that a status has on standard error, its LF with it, at the start of the room, and gives how many bytes it
-/// takes: none for `Done` and `Advised`.
+/// Writes the line that a status has on standard error, its LF with it, at the start of the room, and gives how many
+/// bytes it takes: none for `Done` and `Advised`.
 pub fn put_lint_status(room: &mut [u8; ROOM], status: &LintStatus) -> usize
     ensures offset { result ≤ 96 }
     ensures written { take result room.new ≡ lint_line status.now }

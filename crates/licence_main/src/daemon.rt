@@ -70,7 +70,8 @@ fn tell_pools(licence: &Licence, office: &Office)
     let _served = office.view().pools();
 }
 
-/// Serves the pools of a licence at a path, so many sessions at once, until the bell has rung, and writes the logs and tallies.
+/// Serves the pools of a licence at a path, so many sessions at once, until the bell has rung, and writes the logs and
+/// tallies.
 ///
 /// All memory is taken before the daemon listens. It gives every post of the site back, however it ends.
 pub fn serve_terms<R: Threads + Wait + Sync, O: Sink, S: Site>(

@@ -115,24 +115,25 @@ fn trial_command<R: Threads + Wait + Sync, O: Sink, E: Sink, S: Site>(
     status
 }
 
-/// Runs the program and ends with its status. `words` are those behind the program's name: `serve LICENCE OPTIONS SOCKET
-/// SESSIONS`, with up to three further options files behind; `trial-threads CLIENTS SEATS ROUNDS`; or a command of the tools, which
-/// is run by `tool` as it is alone.
+/// Runs the program and ends with its status. `words` are those behind the program's name: `serve LICENCE OPTIONS
+/// SOCKET SESSIONS`, with up to three further options files behind; `trial-threads CLIENTS SEATS ROUNDS`; or a command
+/// of the tools, which is run by `tool` as it is alone.
 ///
-/// `serve` reads its files, in their order, each of which is accepted before the next is read; takes the memory of its office;
-/// listens at SOCKET; makes a post for each of its 2 to 256 sessions; serves until the bell has rung; and then writes the log of
-/// each pool and the tally of each pool to `out`. Want of memory may come before it listens, and not behind that.
+/// `serve` reads its files, in their order, each of which is accepted before the next is read; takes the memory of its
+/// office; listens at SOCKET; makes a post for each of its 2 to 256 sessions; serves until the bell has rung; and then
+/// writes the log of each pool and the tally of each pool to `out`. Want of memory may come before it listens, and not
+/// behind that.
 ///
-/// `trial-threads` takes the memory of an office of 2 to 256 clients and one feature of 1 to 65,535 seats, makes a post for each
-/// client without listening, lets each client take a seat and give it back 1 to 10,000 times, each in a session of its own, all
-/// at once, and writes its numbers, the grants, and how often the cards of the seats were used. Want of memory may come before
-/// the first post is made, and not behind that.
+/// `trial-threads` takes the memory of an office of 2 to 256 clients and one feature of 1 to 65,535 seats, makes a post
+/// for each client without listening, lets each client take a seat and give it back 1 to 10,000 times, each in a
+/// session of its own, all at once, and writes its numbers, the grants, and how often the cards of the seats were used.
+/// Want of memory may come before the first post is made, and not behind that.
 ///
 /// For every status of these two but `Done` one line goes to `err`; a fault there changes no status.
 ///
-/// `SiteFault` comes only where a call of the site failed, before any session; `DoorFault` only where a door was broken, and logs
-/// and tallies are written all the same; `WriteFault` only where a write to `out` failed, also where `DoorFault` would be
-/// answered.
+/// `SiteFault` comes only where a call of the site failed, before any session; `DoorFault` only where a door was
+/// broken, and logs and tallies are written all the same; `WriteFault` only where a write to `out` failed, also where
+/// `DoorFault` would be answered.
 pub fn licenced<R: Threads + Wait + Sync, F: Files, O: Sink, E: Sink, S: Site>(
     rt: &R,
     alloc: Global,
@@ -149,18 +150,18 @@ pub fn licenced<R: Threads + Wait + Sync, F: Files, O: Sink, E: Sink, S: Site>(
     ensures tool { serve_in words.now ≡ None → trial_in words.now ≡ None → EndsAsTool words.now (F.contents files.old) (F.asked files.old) (F.asked files.new) (F.failed files.old) (F.failed files.new)
         (O.held out.old) (O.held out.new) (HasRisen (O.faults out.old) (O.faults out.new)) (E.held err.old) (E.held err.new) (HasRisen (E.faults err.old) (E.faults err.new)) result }
 
-    // The site is left alone by the tools, by a `serve` whose files are refused, and where memory is wanted. Every post is given
-    // back.
+    // The site is left alone by the tools, by a `serve` whose files are refused, and where memory is wanted. Every post
+    // is given back.
     ensures alone { ((serve_in words.now ≡ None) × (trial_in words.now ≡ None)) ⊎ (is_begun result ≡ false) → site.new ≡ site.old }
     ensures posted { S.posted site.new ≡ S.posted site.old }
 
     // The files of a `serve` are asked for in their order, each once, up to the one of which the status speaks.
     ensures asked { ForServe (serve_in words.now) (λ names. AsksServe names.files (F.asked files.old) (F.asked files.new) (F.failed files.old) (F.failed files.new) (reading_in result)) }
 
-    // What came of the files. On Done, DoorFault and WriteFault they were accepted, and there is one list of sessions for each
-    // party, whose talks and moments the site keeps, and one history for each pool, a run of the rules that the files give it,
-    // which has the entries of these sessions and no others; and out gained the text of these histories, or on WriteFault a
-    // front of it.
+    // What came of the files. On Done, DoorFault and WriteFault they were accepted, and there is one list of sessions
+    // for each party, whose talks and moments the site keeps, and one history for each pool, a run of the rules that
+    // the files give it, which has the entries of these sessions and no others; and out gained the text of these
+    // histories, or on WriteFault a front of it.
     ensures daemon { ForServe (serve_in words.now) (λ names. IsServed names.sessions (λ visits. Follows S.keeps site.old site.new (kept_from (S.made site.old) visits))
         (IfSome (S.path site.old) (λ p. names.socket ≡ p))
         (record { faults = S.faults site.old; tolls = S.tolls site.old; rings = S.rings site.old; broken = S.broken site.old })
@@ -168,9 +169,10 @@ pub fn licenced<R: Threads + Wait + Sync, F: Files, O: Sink, E: Sink, S: Site>(
         (O.held out.old) (O.held out.new) (HasRisen (O.faults out.old) (O.faults out.new))
         (HasFailed (F.failed files.old) (F.failed files.new)) (serve_told (F.contents files.old) names.files) result) }
 
-    // What came of a trial, which asks for no file. On Done and WriteFault there is one session for each client, and one history of
-    // the trial's pool, a run of its rules, which has the entries of these sessions and no others; and out gained the text of its
-    // numbers, of the grants in that history and of as many uses of the cards, or on WriteFault a front of it.
+    // What came of a trial, which asks for no file. On Done and WriteFault there is one session for each client, and
+    // one history of the trial's pool, a run of its rules, which has the entries of these sessions and no others; and
+    // out gained the text of its numbers, of the grants in that history and of as many uses of the cards, or on
+    // WriteFault a front of it.
     ensures trial { ForTrial (trial_in words.now) (λ n. TrialSays n (λ sessions. Follows S.keeps site.old site.new (kept_of (S.made site.old) sessions))
         ((posts : ℕ) × Follows S.keeps site.old site.new (kept_from (S.made site.old) (no_sessions posts)))
         (S.faults site.old) (S.faults site.new) (O.held out.old) (O.held out.new) (HasRisen (O.faults out.old) (O.faults out.new)) result) }
@@ -178,7 +180,8 @@ pub fn licenced<R: Threads + Wait + Sync, F: Files, O: Sink, E: Sink, S: Site>(
     ensures trial_complete { ForTrial (trial_in words.now) (λ n. IsTrialComplete (HasRisen (O.faults out.old) (O.faults out.new)) (S.faults site.old) (S.faults site.new) result) }
     ensures trial_line { ForTrial (trial_in words.now) (λ n. GainsLine (E.held err.old) (E.held err.new) (HasRisen (E.faults err.old) (E.faults err.new)) (serve_line result)) }
 
-    // Standard error gained exactly the line of the status, which is none on Done, or a front of it at a fault of its own.
+    // Standard error gained exactly the line of the status, which is none on Done, or a front of it at a fault of its
+    // own.
     ensures err_line { ForServe (serve_in words.now) (λ names. GainsLine (E.held err.old) (E.held err.new) (HasRisen (E.faults err.old) (E.faults err.new)) (serve_line result)) }
 
     // What surely comes of the files comes, unless memory is wanted or a fault rose.

@@ -11,8 +11,8 @@ use licence_tool::{Status, read_licence_file, read_options_file, read_sets};
 use outside::Files;
 use std::alloc::Global;
 
-/// Reads the files of a `serve`: the licence, the options file, and the further options files, each of which is accepted before
-/// the next is read. The status of an error is that of the first file at fault, or `NoMemory`.
+/// Reads the files of a `serve`: the licence, the options file, and the further options files, each of which is
+/// accepted before the next is read. The status of an error is that of the first file at fault, or `NoMemory`.
 pub fn read_terms<F: Files>(
     alloc: Global,
     files: &mut F,

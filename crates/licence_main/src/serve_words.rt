@@ -67,8 +67,8 @@ fn is_serve(verb: &str, licence: &str, options: &str, socket: &str, more: &[Stri
     more.len() <= MORE_LIMIT
 }
 
-/// The `serve` that the words are, without the program's name. `None` comes exactly where they aren't `serve`, three words that
-/// may name files, a number of sessions, and three further words at most that may name files.
+/// The `serve` that the words are, without the program's name. `None` comes exactly where they aren't `serve`, three
+/// words that may name files, a number of sessions, and three further words at most that may name files.
 pub fn read_serve(words: &[String]) -> Option<ServeNames<'_>>
     ensures serve { option_map serve_named result ≡ serve_of (map string_bytes words.now) }
     ensures few { IfSome result (λ names. length names.more.now ≤ 3) }

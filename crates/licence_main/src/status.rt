@@ -27,8 +27,8 @@ impl DaemonStatus {
     }
 }
 
-/// Writes the line that a `serve` with this end has on standard error, its LF with it, at the start of the room, and gives how
-/// many bytes it takes: none for `Done`.
+/// Writes the line that a `serve` with this end has on standard error, its LF with it, at the start of the room, and
+/// gives how many bytes it takes: none for `Done`.
 pub fn put_serve_status(room: &mut [u8; ROOM], status: &DaemonStatus) -> usize
     ensures offset { result ≤ 96 }
     ensures written { take result room.new ≡ serve_line status.now }

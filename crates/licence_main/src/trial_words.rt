@@ -15,8 +15,8 @@ pub struct TrialNumbers {
     pub rounds: u32,
 }
 
-/// The `trial-threads` that the words are, without the program's name. `None` comes exactly where they aren't `trial-threads`, a
-/// number from 2 to 256, one from 1 to 65,535, and one from 1 to 10,000.
+/// The `trial-threads` that the words are, without the program's name. `None` comes exactly where they aren't
+/// `trial-threads`, a number from 2 to 256, one from 1 to 65,535, and one from 1 to 10,000.
 pub fn read_trial(words: &[String]) -> Option<TrialNumbers>
     ensures trial { result ≡ trial_of (map string_bytes words.now) }
     ensures within { IfSome result IsWithinTrial }

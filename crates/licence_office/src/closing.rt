@@ -28,7 +28,7 @@ pub struct OfficeEnd {
 }
 
 impl OfficeEnd {
-    // Empty, with room for what so many desks tell.
+    /// Empty, with room for what so many desks tell.
     pub(crate) fn room(alloc: Global, desks: usize) -> Result<OfficeEnd, NoMemory>
         ensures { IfOk result (HasRoom desks) }
     {
@@ -38,7 +38,7 @@ impl OfficeEnd {
     }
 }
 
-// Closes desks with all their passes, and tells the numbers and the log of each, in order. The parties keep none.
+/// Closes desks with all their passes, and tells the numbers and the log of each, in order. The parties keep none.
 pub(crate) fn close_all<R: Wait>(rt: &R, opened: Opened, parties: &mut [OfficePass]) -> OfficeEnd
     requires ends { AreEnds (length parties.old) opened.desks.items opened.ends.items }
     requires told { HasRoom (vec_len opened.desks) opened.told }
@@ -75,8 +75,8 @@ pub(crate) fn close_all<R: Wait>(rt: &R, opened: Opened, parties: &mut [OfficePa
 }
 
 impl Office {
-    /// Takes the passes of all parties in, in any order, and the office's logs, ends the boards of all desks, and tells the numbers
-    /// of each desk's whole history, in the order of the pools. No party may hold a seat.
+    /// Takes the passes of all parties in, in any order, and the office's logs, ends the boards of all desks, and tells
+    /// the numbers of each desk's whole history, in the order of the pools. No party may hold a seat.
     ///
     /// It takes no memory. It waits for those who read a board, and for nobody's turn.
     pub fn close<R: Wait>(self, rt: &R, passes: Vec<OfficePass>, logs: OfficeLogs) -> Vec<DeskTally>
@@ -92,9 +92,9 @@ impl Office {
         tallies
     }
 
-    /// Takes the passes of all parties in, in any order, and the office's logs, ends the boards of all desks, and tells the numbers
-    /// of each desk's whole history, and the log of its first 4,096 entries, in the order of the pools, whatever was taken out of
-    /// the logs before. No party may hold a seat.
+    /// Takes the passes of all parties in, in any order, and the office's logs, ends the boards of all desks, and tells
+    /// the numbers of each desk's whole history, and the log of its first 4,096 entries, in the order of the pools,
+    /// whatever was taken out of the logs before. No party may hold a seat.
     ///
     /// It takes no memory. It waits for those who read a board, and for nobody's turn.
     pub fn close_with_log<R: Wait>(

@@ -7,7 +7,7 @@ use feature_desk::DeskPass;
 use no_memory::NoMemory;
 use std::alloc::Global;
 
-// An empty list for each party, with room for so many passes.
+/// An empty list for each party, with room for so many passes.
 pub(crate) fn rooms(alloc: Global, parties: u32, each: usize) -> Result<Vec<OfficePass>, NoMemory>
     ensures count { IfOk result (λ made. vec_len made ≡ parties) }
     ensures rooms { IfOk result (λ made. All (IsRoomFor each) made.items) }
@@ -19,7 +19,7 @@ pub(crate) fn rooms(alloc: Global, parties: u32, each: usize) -> Result<Vec<Offi
     Ok(passes)
 }
 
-// Gives each party its pass of a desk, behind those that it has.
+/// Gives each party its pass of a desk, behind those that it has.
 pub(crate) fn hand_out(passes: &mut Vec<DeskPass>, parties: &mut [OfficePass])
     requires count { vec_len passes.old ≡ length parties.old }
     requires room { All (λ p. vec_len p < vec_capacity p) parties.old }
@@ -33,7 +33,7 @@ pub(crate) fn hand_out(passes: &mut Vec<DeskPass>, parties: &mut [OfficePass])
     }
 }
 
-// Takes each party's last pass in, in order.
+/// Takes each party's last pass in, in order.
 pub(crate) fn take_in(parties: &mut [OfficePass], passes: &mut Vec<DeskPass>)
     requires some { All (λ p. 0 < vec_len p) parties.old }
     requires empty { passes.old.items ≡ [] }

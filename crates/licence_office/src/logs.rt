@@ -11,7 +11,7 @@ use std::marker::Model;
 use std::sync::atomic::{AtomicU64, Ordering};
 use std::sync::{Arc, Wait};
 
-// What a desk's end takes.
+/// What a desk's end takes.
 #[derive(Drop)]
 pub(crate) struct DeskEnd {
     // Who keeps the desk's log.
@@ -21,7 +21,7 @@ pub(crate) struct DeskEnd {
 }
 
 impl DeskEnd {
-    // Takes the next entry out of the queue of the desk's log, and says whether there was one.
+    /// Takes the next entry out of the queue of the desk's log, and says whether there was one.
     fn take<R: Wait>(&mut self, rt: &R) -> bool
         ensures taken { MatchBool result ((x : Entry) × (taken_at self.new ≡ taken_at self.old ++ x ∷ [])) (taken_at self.new ≡ taken_at self.old) }
         ensures keeper { untouched self.new.keeper ≡ untouched self.old.keeper }
@@ -31,7 +31,7 @@ impl DeskEnd {
     }
 }
 
-// Takes the next entry out of the queue of each desk's log, and tells how many there were.
+/// Takes the next entry out of the queue of each desk's log, and tells how many there were.
 fn take_each<R: Wait>(rt: &R, ends: &mut [DeskEnd]) -> usize
     ensures taken { AreTaken ends.old ends.new }
     ensures count { sum_by length (map taken_at ends.new) ≡ sum_by length (map taken_at ends.old) + result }
@@ -45,7 +45,7 @@ fn take_each<R: Wait>(rt: &R, ends: &mut [DeskEnd]) -> usize
     count
 }
 
-// Adds so many entries to the word, if there is one.
+/// Adds so many entries to the word, if there is one.
 fn add_to(word: &Option<Arc<AtomicU64, Global>>, entries: usize) {
     if let Some(count) = word {
         count.fetch_add(entries as u64, Ordering::SeqCst);
@@ -54,8 +54,8 @@ fn add_to(word: &Option<Arc<AtomicU64, Global>>, entries: usize) {
 
 /// The logs of an office's desks: of each the end at which its entries come out, and what the office's close takes.
 ///
-/// Contracts see them as a `LogsSeen`: the `keepers` of the desks' logs, what was `taken` out at each desk, and for how many
-/// `parties` they are.
+/// Contracts see them as a `LogsSeen`: the `keepers` of the desks' logs, what was `taken` out at each desk, and for how
+/// many `parties` they are.
 #[derive(Drop)]
 pub struct OfficeLogs {
     pub(crate) ends: Vec<DeskEnd>,
@@ -78,8 +78,8 @@ impl Model for OfficeLogs {
 }
 
 impl OfficeLogs {
-    /// Goes round the desks once, takes the next entry out of each queue that has one, and tells how many it took. It takes no
-    /// memory.
+    /// Goes round the desks once, takes the next entry out of each queue that has one, and tells how many it took. It
+    /// takes no memory.
     pub fn take_round<R: Wait>(&mut self, rt: &R) -> usize
         ensures same { (self.new.keepers ≡ self.old.keepers) × (self.new.parties ≡ self.old.parties) }
         ensures grown { HaveGrown self.old.taken self.new.taken }
@@ -90,7 +90,8 @@ impl OfficeLogs {
         taken
     }
 
-    /// The same logs, whose rounds add how many entries they took to this word, modulo 2^64. Threads may read it meanwhile.
+    /// The same logs, whose rounds add how many entries they took to this word, modulo 2^64. Threads may read it
+    /// meanwhile.
     pub fn counted_in(self, count: Arc<AtomicU64, Global>) -> OfficeLogs
         ensures { result ≡ self }
     {

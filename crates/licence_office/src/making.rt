@@ -27,7 +27,7 @@ use std::alloc::Global;
 use std::slice::from_ref;
 use std::sync::Wait;
 
-// The rule sets of a pool, one for each options file.
+/// The rule sets of a pool, one for each options file.
 fn sets_of(alloc: Global, pool: &Pool, sets: &[Options]) -> Result<Vec<DeskRules>, NoMemory>
     ensures rules { IfOk result (λ made. made.items ≡ map (rules_of pool.now) sets.now) }
     ensures sound { IfOk result (λ made. (n : ℕ) → n < length made.items → IsSound (set_at made.items n)) }
@@ -39,7 +39,7 @@ fn sets_of(alloc: Global, pool: &Pool, sets: &[Options]) -> Result<Vec<DeskRules
     Ok(rules)
 }
 
-// Whether a fast gate stands before the seats of so many licences, for so many parties.
+/// Whether a fast gate stands before the seats of so many licences, for so many parties.
 fn has_gate(parties: u32, count: u32) -> bool
     requires { parties ≤ PARTY_LIMIT }
     ensures { result ≡ has_gate parties count }
@@ -48,8 +48,8 @@ fn has_gate(parties: u32, count: u32) -> bool
     2 * seats < parties && parties + seats <= 256
 }
 
-// The desk of a pool, with the passes of all parties and the keeper of its log. Its seats stand behind a fast gate where there
-// can be one.
+/// The desk of a pool, with the passes of all parties and the keeper of its log. Its seats stand behind a fast gate
+/// where there can be one.
 fn make_desk<R: Wait>(
     rt: &R,
     alloc: Global,
@@ -72,8 +72,8 @@ fn make_desk<R: Wait>(
     Desk::make_many(rt, alloc, rules, net)
 }
 
-// Opens a desk for each pool, in order, and deals its passes. Where there is too little memory, the desks that were opened are
-// closed with all their passes.
+/// Opens a desk for each pool, in order, and deals its passes. Where there is too little memory, the desks that were
+/// opened are closed with all their passes.
 fn open_all<R: Wait>(
     rt: &R,
     alloc: Global,
@@ -120,8 +120,9 @@ fn open_all<R: Wait>(
 }
 
 impl Office {
-    /// The desks of a licence's pools, in order, under one options file, the passes of 2 to 256 parties, in order, and the logs of
-    /// the desks, as [`make_many`](Office::make_many) makes them. `NoMemory` comes where there is too little memory.
+    /// The desks of a licence's pools, in order, under one options file, the passes of 2 to 256 parties, in order, and
+    /// the logs of the desks, as [`make_many`](Office::make_many) makes them. `NoMemory` comes where there is too
+    /// little memory.
     pub fn make<R: Wait>(
         rt: &R,
         alloc: Global,
@@ -138,12 +139,12 @@ impl Office {
         Office::make_many(rt, alloc, licence, from_ref(options), parties)
     }
 
-    /// The desks of a licence's pools, in order, each with one rule set for each of one to four options files; the passes of 2 to
-    /// 256 parties, in order; and the logs of the desks.
+    /// The desks of a licence's pools, in order, each with one rule set for each of one to four options files; the
+    /// passes of 2 to 256 parties, in order; and the logs of the desks.
     ///
-    /// It takes all memory that the office ever needs, but what the boards of its desks take at their first entries. `NoMemory`
-    /// comes where there is not so much; the desks that were made are closed then. It waits for nobody, since nobody has a pass
-    /// yet.
+    /// It takes all memory that the office ever needs, but what the boards of its desks take at their first entries.
+    /// `NoMemory` comes where there is not so much; the desks that were made are closed then. It waits for nobody,
+    /// since nobody has a pass yet.
     pub fn make_many<R: Wait>(
         rt: &R,
         alloc: Global,

@@ -10,7 +10,7 @@ use std::marker::Model;
 /// A party's passes, one for each desk, in order.
 pub type OfficePass = Vec<DeskPass>;
 
-// The desks that were opened, with what their end takes.
+/// The desks that were opened, with what their end takes.
 pub(crate) struct Opened {
     // In the order of the pools.
     pub(crate) desks: Vec<Desk>,

@@ -63,8 +63,8 @@ pub fn yes_text(alloc: Global, sums: &Sums) -> Result<Vec<u8>, NoMemory>
     Ok(text)
 }
 
-/// Writes the line that tells that a log is no run: its first line that shows it, and what holds in the place of its entry.
-/// It gives how many bytes it takes.
+/// Writes the line that tells that a log is no run: its first line that shows it, and what holds in the place of its
+/// entry. It gives how many bytes it takes.
 pub fn put_no(room: &mut [u8; NO_ROOM], line: u32, place: u64, moment: u64, reply: &Reply) -> usize
     ensures place { result ≤ 256 }
     ensures written { take result room.new ≡ no_text line place moment reply.now }

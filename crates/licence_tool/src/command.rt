@@ -106,7 +106,8 @@ fn read_check(names: &[String]) -> Option<Command<'_>>
     }
 }
 
-/// The files of a replay, a report, an audit or a usage: three to six words that may name files. `None` comes exactly where they aren't.
+/// The files of a replay, a report, an audit or a usage: three to six words that may name files. `None` comes exactly
+/// where they aren't.
 fn read_run(names: &[String]) -> Option<RunNames<'_>>
     ensures run { option_map run_named result ≡ run_of (map string_bytes names.now) }
     ensures few { IfSome result (λ run. length run.more.now ≤ 3) }
@@ -127,7 +128,8 @@ fn read_run(names: &[String]) -> Option<RunNames<'_>>
     }
 }
 
-/// How many events a trial is to have: one word, a number from 1 to 1,000,000. `None` comes exactly where the words are none.
+/// How many events a trial is to have: one word, a number from 1 to 1,000,000. `None` comes exactly where the words are
+/// none.
 fn read_events(words: &[String]) -> Option<u32>
     ensures events { result ≡ events_of (map string_bytes words.now) }
     ensures within { IfSome result (λ events. events ≤ 1000000) }
@@ -139,8 +141,8 @@ fn read_events(words: &[String]) -> Option<u32>
 }
 
 /// The command that the words are, without the program's name. `None` comes exactly where they are neither `check` and
-/// two words that may name files, nor `replay`, `report`, `audit` or `usage` and three to six of them, nor `trial-replay` and a
-/// number from 1 to 1,000,000.
+/// two words that may name files, nor `replay`, `report`, `audit` or `usage` and three to six of them, nor
+/// `trial-replay` and a number from 1 to 1,000,000.
 pub fn read_command(words: &[String]) -> Option<Command<'_>>
     ensures command { option_map file_names result ≡ command_of (map string_bytes words.now) }
     ensures within { IfSome result IsWithinLimits }

@@ -88,9 +88,9 @@ fn put_script_fault(room: &mut [u8; ROOM], third: Third, fault: &ScriptFault) ->
     put(room, at, b"\n")
 }
 
-/// Writes the line that a status has on standard error, its LF with it, at the start of the room, and gives how many bytes it
-/// takes: none for `Done`. `third` is what the command's third file is called in it. The bytes of the room behind the line are
-/// left open. The lines are this project's own.
+/// Writes the line that a status has on standard error, its LF with it, at the start of the room, and gives how many
+/// bytes it takes: none for `Done`. `third` is what the command's third file is called in it. The bytes of the room
+/// behind the line are left open. The lines are this project's own.
 pub fn put_status(room: &mut [u8; ROOM], third: Third, status: &Status) -> usize
     ensures offset { result ≤ 96 }
     ensures written { take result room.new ≡ line_of third status.now }
@@ -122,8 +122,8 @@ pub fn put_status(room: &mut [u8; ROOM], third: Third, status: &Status) -> usize
     }
 }
 
-/// Writes a line to standard error, unless it is empty. A write that fails is told to nobody; a prefix of the line was written
-/// then.
+/// Writes a line to standard error, unless it is empty. A write that fails is told to nobody; a prefix of the line was
+/// written then.
 pub fn write_line<E: Sink>(err: &mut E, line: &[u8])
     ensures { GainsLine (E.held err.old) (E.held err.new) (HasRisen (E.faults err.old) (E.faults err.new)) line.now }
 {

@@ -1,7 +1,8 @@
-//! The offline tools of the floating licence daemon: the command words, the files that they name, and what is written of them.
+//! The offline tools of the floating licence daemon: the command words, the files that they name, and what is written
+//! of them.
 //!
-//! [`tool`] runs one command and ends with a [`Status`]; [`words_of`] reads the words of a command line. The readers of files and
-//! the texts of faults stand here for the daemon too.
+//! [`tool`] runs one command and ends with a [`Status`]; [`words_of`] reads the words of a command line. The readers of
+//! files and the texts of faults stand here for the daemon too.
 #![tactic(auto)]
 
 mod audit_text;

@@ -3,8 +3,8 @@ ghost use Rattle.licence_tool.specs.Numbers.{number_within};
 
 use lic_text::number;
 
-/// The number that a word of a command writes in decimal digits, from the least to the most. `None` comes exactly where it writes
-/// none of these.
+/// The number that a word of a command writes in decimal digits, from the least to the most. `None` comes exactly where
+/// it writes none of these.
 pub fn number_within(word: &str, least: u64, most: u64) -> Option<u32>
     requires { most < 2 ^ 32 }
     ensures number { result ≡ number_within least most word.now }

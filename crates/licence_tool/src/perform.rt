@@ -155,8 +155,8 @@ fn write_no<O: Sink>(
     out.write(&room[..end])
 }
 
-/// Writes what an audit shows of the entries of a log: this report, where they are a run. `AuditNo` comes where they are none and
-/// that was written.
+/// Writes what an audit shows of the entries of a log: this report, where they are a run. `AuditNo` comes where they
+/// are none and that was written.
 #[tactic(auto, using(crate::proofs::Verdicts::no_written))]
 fn write_audit<O: Sink>(
     alloc: Global,

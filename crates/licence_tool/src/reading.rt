@@ -70,8 +70,9 @@ fn options_status(set: u8, fault: OptionsFault) -> Status
     }
 }
 
-/// The licence of the file of a name, which is the first. The status of an error tells why there is none: `ReadFault` and
-/// `FileTooLong` of the file, which may have 1,048,576 bytes, `Licence` where its grammar refuses it, or `NoMemory`.
+/// The licence of the file of a name, which is the first. The status of an error tells why there is none: `ReadFault`
+/// and `FileTooLong` of the file, which may have 1,048,576 bytes, `Licence` where its grammar refuses it, or
+/// `NoMemory`.
 pub fn read_licence_file<F: Files>(
     alloc: Global,
     files: &mut F,
@@ -89,7 +90,8 @@ pub fn read_licence_file<F: Files>(
     }
 }
 
-/// The position of the options file of a rule set: the one of number 0 stands second, the others stand behind the third file.
+/// The position of the options file of a rule set: the one of number 0 stands second, the others stand behind the third
+/// file.
 fn position_of_set(set: u8) -> u8
     requires { set ≤ 3 }
     ensures { result ≡ position_of_set set }
@@ -97,9 +99,9 @@ fn position_of_set(set: u8) -> u8
     if set == 0 { 2 } else { 3 + set }
 }
 
-/// The options of the file of a name, which is that of the rule set of this number, from 0. The status of an error tells why
-/// there are none: `ReadFault` and `FileTooLong` of the file, which may have 1,048,576 bytes, `Options` or `MoreOptions` where
-/// its grammar refuses it, or `NoMemory`.
+/// The options of the file of a name, which is that of the rule set of this number, from 0. The status of an error
+/// tells why there are none: `ReadFault` and `FileTooLong` of the file, which may have 1,048,576 bytes, `Options` or
+/// `MoreOptions` where its grammar refuses it, or `NoMemory`.
 pub fn read_options_file<F: Files>(
     alloc: Global,
     files: &mut F,
@@ -160,8 +162,8 @@ pub fn read_log_file<F: Files>(
     }
 }
 
-/// The options of all rule sets: these, and those of the further options files of these names, each of which is read and
-/// accepted before the next is read. The status of an error is that of the first file at fault, or `NoMemory`.
+/// The options of all rule sets: these, and those of the further options files of these names, each of which is read
+/// and accepted before the next is read. The status of an error is that of the first file at fault, or `NoMemory`.
 pub fn read_sets<F: Files>(
     alloc: Global,
     files: &mut F,

@@ -18,16 +18,18 @@ use outside::{Files, Sink};
 use std::alloc::Global;
 
 /// Runs one command and ends with its status. `words` are those behind the program's name: `check LICENCE OPTIONS`, or
-/// `replay LICENCE OPTIONS SCRIPT`, `report LICENCE OPTIONS SCRIPT`, `audit LICENCE OPTIONS LOG` or `usage LICENCE OPTIONS LOG` with up to three further options
-/// files behind, or `trial-replay EVENTS`, which names no file. A word that is no UTF-8 is no command, and want of memory for the words is `NoMemory`. What the command writes
-/// goes to `out`, and for every status but `Done` one line goes to `err`; a fault there changes no status.
+/// `replay LICENCE OPTIONS SCRIPT`, `report LICENCE OPTIONS SCRIPT`, `audit LICENCE OPTIONS LOG` or `usage LICENCE
+/// OPTIONS LOG` with up to three further options files behind, or `trial-replay EVENTS`, which names no file. A word
+/// that is no UTF-8 is no command, and want of memory for the words is `NoMemory`. What the command writes goes to
+/// `out`, and for every status but `Done` one line goes to `err`; a fault there changes no status.
 ///
-/// The order is: the words, then file by file its reading, its length and its grammar, then the memory for the text, and
-/// then the writing. Want of memory may come at each of these, but not after the first byte was written to `out`.
+/// The order is: the words, then file by file its reading, its length and its grammar, then the memory for the text,
+/// and then the writing. Want of memory may come at each of these, but not after the first byte was written to `out`.
 ///
-/// `Comes` says what comes of the files: what is due where all are accepted, or the status of the first file at fault, in
-/// that order. A check, a replay, a report and a trial owe a text; an audit and a usage owe their verdict on the log, which is a text on `Done` where
-/// the log is a run, of its users or of its days, and another on `AuditNo` where it is none.
+/// `Comes` says what comes of the files: what is due where all are accepted, or the status of the first file at fault,
+/// in that order. A check, a replay, a report and a trial owe a text; an audit and a usage owe their verdict on the
+/// log, which is a text on `Done` where the log is a run, of its users or of its days, and another on `AuditNo` where
+/// it is none.
 pub fn tool<F: Files, O: Sink, E: Sink>(
     alloc: Global,
     words: &Words,
@@ -52,8 +54,8 @@ pub fn tool<F: Files, O: Sink, E: Sink>(
         → ForFiles (command_in words.now) (F.contents files.old)
         (λ told. WritesNo (HasFailed (F.failed files.old) (F.failed files.new)) told line (O.held out.old) (O.held out.new)) }
 
-    // On Done of a replay or a report that text tells of histories, one for each pool, which are lawful runs of the pool's rule sets.
-    // The events of a trial are a run of the rules of its pool.
+    // On Done of a replay or a report that text tells of histories, one for each pool, which are lawful runs of the
+    // pool's rule sets. The events of a trial are a run of the rules of its pool.
     ensures histories { result ≡ Status.Done
         → ForFiles (command_in words.now) (F.contents files.old)
         (λ told. WritesHistories (HasFailed (F.failed files.old) (F.failed files.new)) told (O.held out.old) (O.held out.new)) }
@@ -88,8 +90,8 @@ pub fn tool<F: Files, O: Sink, E: Sink>(
     ensures told { ForFiles (command_in words.now) (F.contents files.old)
         (λ told. are_told told ≡ true → IsSure told (outcome_of told)) }
 
-    // What surely comes of the files comes, unless memory is wanted or a fault rose: Done with the text, AuditNo with the
-    // line, or the status.
+    // What surely comes of the files comes, unless memory is wanted or a fault rose: Done with the text, AuditNo with
+    // the line, or the status.
     ensures complete { ForFiles (command_in words.now) (F.contents files.old)
         (λ told. (due : Due) (text : List ℕ) → IsSure told (Ok due) → IsTold due text
         → ¬ HasFailed (F.failed files.old) (F.failed files.new)

@@ -84,8 +84,8 @@ fn put_pools(text: &mut Vec<u8>, pools: &[Pool], days: &[DatedSum]) -> Result<()
     Ok(())
 }
 
-/// The text that tells of pools and their days: a line for each pool with its number from 0, its name and its version as the
-/// licence writes it, and behind it a line for each of its days. The one error is want of memory.
+/// The text that tells of pools and their days: a line for each pool with its number from 0, its name and its version
+/// as the licence writes it, and behind it a line for each of its days. The one error is want of memory.
 pub fn usage_text(alloc: Global, pools: &[Pool], days: &[DaySum]) -> Result<Vec<u8>, NoMemory>
     ensures { IfOk result (λ text. IsUsageText pools.now days.now text.items) }
 {

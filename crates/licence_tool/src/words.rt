@@ -34,8 +34,8 @@ fn behind_first(alloc: Global, args: Args) -> Words
     Words::Text(words)
 }
 
-/// What the command line has, by the outcome of reading it: `NoMemory` where memory was wanted, `NotText` for every other
-/// fault.
+/// What the command line has, by the outcome of reading it: `NoMemory` where memory was wanted, `NotText` for every
+/// other fault.
 pub fn words_of(alloc: Global, read: io::Result<Args>) -> Words
     ensures text { IfOk read (λ args. IsRead (into_iter_items args) result) }
     ensures memory { IfErr read (λ fault. error_kind fault ≡ ErrorKind.OutOfMemory → result ≡ Words.NoMemory) }

@@ -21,8 +21,8 @@ pub enum Fed {
 
 /// Makes lines of pieces, however the stream is cut.
 ///
-/// Contracts see it as the bytes that it holds (those since the last LF, or the line that it gave last), whether a line was
-/// given last, and whether a line was too long.
+/// Contracts see it as the bytes that it holds (those since the last LF, or the line that it gave last), whether a line
+/// was given last, and whether a line was too long.
 #[derive(Drop)]
 pub struct Feeder {
     bytes: [u8; LINE_LIMIT],
@@ -99,8 +99,8 @@ impl Feeder {
         Fed::TooLong
     }
 
-    /// Takes bytes of a piece, up to its first LF. `TooLong` comes exactly where 1,025 bytes came since the last LF with no LF
-    /// among them, and from then on always.
+    /// Takes bytes of a piece, up to its first LF. `TooLong` comes exactly where 1,025 bytes came since the last LF
+    /// with no LF among them, and from then on always.
     pub fn feed(&mut self, piece: &[u8]) -> Fed
         ensures { Feeds self.old self.new piece.now result }
     {

@@ -245,9 +245,9 @@ fn read_words(words: Words<'_>) -> Result<Wire, WireFault>
 
 /// What a line, without its LF, asks. The words are its longest runs of bytes other than space.
 ///
-/// The first fault of these is told: a byte that isn't from 32 to 126; no word; a first word that is no request; another
-/// number of words than the request has; a name that is none; a version that is none; a number that is none, or not below
-/// 2^32. The grammar and the order of the faults are this project's own.
+/// The first fault of these is told: a byte that isn't from 32 to 126; no word; a first word that is no request;
+/// another number of words than the request has; a name that is none; a version that is none; a number that is none, or
+/// not below 2^32. The grammar and the order of the faults are this project's own.
 pub fn read_request(line: &[u8]) -> Result<Wire, WireFault>
     ensures { result ≡ request_of line.now }
 {

@@ -106,8 +106,8 @@ fn put_told(room: &mut [u8; 160], told: &Told) -> usize
     }
 }
 
-/// Writes the line of what a client is told, with its LF, at the start of the room, and gives how many bytes it takes, 160 at
-/// most. The words are this project's own; the bytes of the room behind them are left open.
+/// Writes the line of what a client is told, with its LF, at the start of the room, and gives how many bytes it takes,
+/// 160 at most. The words are this project's own; the bytes of the room behind them are left open.
 pub fn write_reply(told: &Told, room: &mut [u8; 160]) -> usize
     ensures offset { result ≤ 153 }
     ensures written { take result room.new ≡ line_of told.now }

@@ -1,8 +1,8 @@
 //! Runs a full clock of lingering seats as often as its arguments say, to measure what a call costs.
 //!
 //! `linger_bench settle ROOM ROUNDS` takes out the first deadline and adds one for its owner, ROUNDS times over;
-//! `linger_bench remove ROOM ROUNDS` does so with the deadline of an owner that a generator picks. It prints the sum of the owners,
-//! modulo 2^64, so that a wrong answer shows.
+//! `linger_bench remove ROOM ROUNDS` does so with the deadline of an owner that a generator picks. It prints the sum of
+//! the owners, modulo 2^64, so that a wrong answer shows.
 #![tactic(auto)]
 
 ghost use Rattle.std.specs.Prelude.{◌<◌};
@@ -26,14 +26,14 @@ fn kind_of(word: &str) -> Result<Kind> {
     }
 }
 
-// The next state of Knuth's 64-bit linear congruential generator (MMIX).
+/// The next state of Knuth's 64-bit linear congruential generator (MMIX).
 fn next(state: u64) -> u64 {
     state
         .wrapping_mul(6364136223846793005)
         .wrapping_add(1442695040888963407)
 }
 
-// A moment below 2^24, from the upper bits of a state.
+/// A moment below 2^24, from the upper bits of a state.
 fn moment(state: u64) -> u64 {
     state >> 40
 }

@@ -1,8 +1,8 @@
 //! Deadlines in order: whose time is up first.
 //!
-//! A clock holds at most one deadline for each owner. An owner is any number that the clock's user hands out, such as the place
-//! of a lingering seat in a table. Deadlines fall due in the order of their moments, and those of one moment in the order of
-//! their owners (this project). All memory is taken when the clock is made.
+//! A clock holds at most one deadline for each owner. An owner is any number that the clock's user hands out, such as
+//! the place of a lingering seat in a table. Deadlines fall due in the order of their moments, and those of one moment
+//! in the order of their owners (this project). All memory is taken when the clock is made.
 #![tactic(auto)]
 
 ghost use Rattle.std.specs.Prelude.{◌≡◌, ◌≤◌, ◌<◌, ◌↔◌, [], Some, length, find, slice_get, All, IsNone, IsSome, IfOk, IfSome, IfNone, OnOk, OnErr};
@@ -61,8 +61,8 @@ impl Model for Clock {
 }
 
 impl Clock {
-    /// A clock with room for `room` deadlines, none of which waits yet. All its memory is taken here, and no other call takes
-    /// any. `NoMemory` comes where there was too little.
+    /// A clock with room for `room` deadlines, none of which waits yet. All its memory is taken here, and no other call
+    /// takes any. `NoMemory` comes where there was too little.
     pub fn make(alloc: Global, room: u32) -> Result<Self, NoMemory>
         ensures { IfOk result (λ clock. clock ≡ record { room = room; pairs = [] }) }
     {
@@ -76,8 +76,9 @@ impl Clock {
         })
     }
 
-    /// Lets `owner` wait for the moment `until`, in seconds since 1970-01-01 UTC. It is refused as `Full` where as many deadlines
-    /// wait as there is room for, and else as `Twice` where the owner waits already; then nothing has changed.
+    /// Lets `owner` wait for the moment `until`, in seconds since 1970-01-01 UTC. It is refused as `Full` where as many
+    /// deadlines wait as there is room for, and else as `Twice` where the owner waits already; then nothing has
+    /// changed.
     pub fn add(&mut self, owner: u64, until: u64) -> Result<(), ClockFault>
         ensures full { (result ≡ Err ClockFault.Full) ↔ (length self.old.pairs ≡ self.old.room) }
         ensures twice { (result ≡ Err ClockFault.Twice) ↔ ((length self.old.pairs < self.old.room) × IsSome (until_of owner self.old.pairs)) }
@@ -97,7 +98,8 @@ impl Clock {
         Ok(())
     }
 
-    /// Takes the owner's deadline out and gives its moment, in seconds since 1970-01-01 UTC; `None` where the owner doesn't wait.
+    /// Takes the owner's deadline out and gives its moment, in seconds since 1970-01-01 UTC; `None` where the owner
+    /// doesn't wait.
     pub fn remove(&mut self, owner: u64) -> Option<u64>
         ensures moment { result ≡ until_of owner self.old.pairs }
         ensures removed { self.new ≡ record self.old { pairs = without owner self.old.pairs } }
@@ -118,8 +120,8 @@ impl Clock {
         self.by_moment.first().map(|d| d.until)
     }
 
-    /// Takes out the first deadline in order that has come at the moment `now`, in seconds since 1970-01-01 UTC, and gives its
-    /// owner; `None` where none has come, and then nothing has changed.
+    /// Takes out the first deadline in order that has come at the moment `now`, in seconds since 1970-01-01 UTC, and
+    /// gives its owner; `None` where none has come, and then nothing has changed.
     pub fn settle(&mut self, now: u64) -> Option<u64>
         ensures first { result ≡ option_map (λ d. d.owner) (find (is_due now) self.old.pairs) }
         ensures taken { IfSome result (λ owner. self.new ≡ record self.old { pairs = without owner self.old.pairs }) }
@@ -134,7 +136,7 @@ impl Clock {
         Some(first.owner)
     }
 
-    // The moment of the owner's deadline.
+    /// The moment of the owner's deadline.
     fn moment_of(&self, owner: u64) -> Option<u64>
         ensures moment { result ≡ until_of owner self.now.pairs }
         ensures kept { IsClock self.now }
@@ -144,7 +146,7 @@ impl Clock {
         self.by_owner.get(Order::ByOwner, like).map(|d| d.until)
     }
 
-    // Puts in a deadline of a new owner.
+    /// Puts in a deadline of a new owner.
     fn put_in(&mut self, deadline: Deadline)
         requires room_left { length self.old.pairs < self.old.room }
         requires absent { IsNone (until_of deadline.owner self.old.pairs) }
@@ -160,7 +162,7 @@ impl Clock {
         self.by_owner.insert(Order::ByOwner, deadline, second);
     }
 
-    // Takes out a deadline that waits.
+    /// Takes out a deadline that waits.
     fn take_out(&mut self, deadline: Deadline)
         requires { until_of deadline.owner self.old.pairs ≡ Some deadline.until }
         ensures removed { self.new ≡ record self.old { pairs = without deadline.owner self.old.pairs } }

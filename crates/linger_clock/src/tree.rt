@@ -1,5 +1,5 @@
-// A height-balanced search tree (after Adelson-Velsky and Landis, 1962) of deadlines, seen as their list and the tree's height.
-// It takes no memory: what a new deadline needs is handed in, and handed back when one goes.
+// A height-balanced search tree (after Adelson-Velsky and Landis, 1962) of deadlines, seen as their list and the tree's
+// height. It takes no memory: what a new deadline needs is handed in, and handed back when one goes.
 ghost use Rattle.std.specs.Prelude.{◌≡◌, ◌+◌, ◌^◌, ◌<◌, ◌≤◌, max, [], ◌∷◌, ◌++◌, length, find, filter, slice_get, not, IsSome, IfSome, IfNone};
 ghost use Rattle.linger_clock.specs.Ranks.{comes_before, ties, IsRanked, ranked_in};
 ghost use Rattle.linger_clock.specs.Tree.{content_of, IsEven, IsNearlyEven, RebalancesTo, DifferByAtMost};
@@ -291,7 +291,7 @@ impl Tree {
     }
 }
 
-// The deadlines of both sides in one tree, and the memory of the deadline between them.
+/// The deadlines of both sides in one tree, and the memory of the deadline between them.
 fn joined(mut l: Box<Tree>, mut r: Box<Tree>) -> (Node, Spare)
     requires close { DifferByAtMost 1 l.value.1 r.value.1 }
     requires few { length l.value.0 + length r.value.0 < 2 ^ 32 }

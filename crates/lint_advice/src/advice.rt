@@ -1,7 +1,7 @@
 use lic_types::{Day, Name};
 
-/// A slip that the readers of the licence and of the options file accept. `line` is its physical line, from 1: that of the
-/// options file, and at `Expires` that of the licence. Which slips are told of is this project's own.
+/// A slip that the readers of the licence and of the options file accept. `line` is its physical line, from 1: that of
+/// the options file, and at `Expires` that of the licence. Which slips are told of is this project's own.
 #[derive(Clone, Copy, Debug, PartialEq, Eq)]
 pub enum Advice {
     /// No rule of the file names the group that the line lists.

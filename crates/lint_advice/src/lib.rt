@@ -1,5 +1,5 @@
-//! Advice on a licence and an options file that their readers accept: the slips that the daemon takes without a word, as values
-//! and as text.
+//! Advice on a licence and an options file that their readers accept: the slips that the daemon takes without a word,
+//! as values and as text.
 #![tactic(auto)]
 
 mod advice;
@@ -24,9 +24,9 @@ pub use text::advice_text;
 
 /// The advice on a licence and an options file, with that on pools that expire by a horizon, where one is given.
 ///
-/// First what is advised of the lines of the options file, line by line in their order; then what is advised of the pools, in
-/// their order. Of one line it comes in the order of the kinds of [`Advice`]. What is advised is this project's own. The one
-/// error is want of memory.
+/// First what is advised of the lines of the options file, line by line in their order; then what is advised of the
+/// pools, in their order. Of one line it comes in the order of the kinds of [`Advice`]. What is advised is this
+/// project's own. The one error is want of memory.
 pub fn advice_of(
     alloc: Global,
     licence: &Licence,

@@ -91,7 +91,8 @@ fn advise_next_group(
     Ok(())
 }
 
-/// Puts what is advised of the next line, which is a rule, behind the other advice; `false` comes exactly where none is left.
+/// Puts what is advised of the next line, which is a rule, behind the other advice; `false` comes exactly where none is
+/// left.
 fn advise_next_rule(
     advice: &mut Vec<Advice>,
     known: &Known<'_>,
@@ -134,7 +135,8 @@ fn advise_next(
     }
 }
 
-/// Puts what is advised of the lines of these groups and of the known rules behind the other advice, in the order of the lines.
+/// Puts what is advised of the lines of these groups and of the known rules behind the other advice, in the order of
+/// the lines.
 pub fn advise_lines(
     advice: &mut Vec<Advice>,
     known: &Known<'_>,

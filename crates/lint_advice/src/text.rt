@@ -133,8 +133,8 @@ fn put_advice(text: &mut Vec<u8>, advice: &Advice) -> Result<(), NoMemory>
     Ok(())
 }
 
-/// The text of advice: a line for each piece, with the file and the physical line of which it is. The form is this project's
-/// own. The one error is want of memory.
+/// The text of advice: a line for each piece, with the file and the physical line of which it is. The form is this
+/// project's own. The one error is want of memory.
 pub fn advice_text(alloc: Global, advice: &[Advice]) -> Result<Vec<u8>, NoMemory>
     ensures { IfOk result (λ text. text.items ≡ text_of advice.now) }
 {

@@ -1,6 +1,8 @@
 //! Asks a sum behind a ticket lock from several threads, to measure what a call costs.
 //!
-//! `lock_bench THREADS ROUNDS` puts a sum behind a lock with THREADS passes, from 1 to 256, and asks it ROUNDS times with each, every pass in a thread of its own. It closes the lock and prints the number of the calls, so that a lost one shows.
+//! `lock_bench THREADS ROUNDS` puts a sum behind a lock with THREADS passes, from 1 to 256, and asks it ROUNDS times
+//! with each, every pass in a thread of its own. It closes the lock and prints the number of the calls, so that a lost
+//! one shows.
 #![tactic(auto)]
 
 ghost use Rattle.std.specs.Prelude.{◌≡◌, ◌≤◌, IfOk};
@@ -12,7 +14,7 @@ use std::thread::map_vec;
 use turn_lock::sum::{Addend, Sum};
 use turn_lock::{TurnPass, Turns};
 
-// Asks so often, with 1 each.
+/// Asks so often, with 1 each.
 fn asks<R: Wait>(rt: &R, turns: &Turns<Sum>, mut pass: TurnPass<Sum>, rounds: u32) -> TurnPass<Sum>
     requires { pass.lock ≡ turns.now.id }
     ensures { result.lock ≡ pass.lock }

@@ -15,8 +15,8 @@ use feature_lines::Licence;
 use options_text::Options;
 use std::alloc::Global;
 
-/// Judges the entries of a log by a licence and one to four options files, of which the first holds until an entry asks for
-/// another by its number, from 0. The entries of each pool are run in the log's order. The answer is
+/// Judges the entries of a log by a licence and one to four options files, of which the first holds until an entry asks
+/// for another by its number, from 0. The entries of each pool are run in the log's order. The answer is
 ///
 /// - `Yes` exactly where the log is a run: each pool's entries stand at the places 0, 1, 2 and so on, no moment goes back, and
 ///   each reply is the machine's.
@@ -47,8 +47,8 @@ pub fn audit_entries(
     }
 }
 
-/// Judges a log by a licence and one to four options files, as `audit_entries` does with the entries that `read_log` reads.
-/// The answer is that of the first of these that has one:
+/// Judges a log by a licence and one to four options files, as `audit_entries` does with the entries that `read_log`
+/// reads. The answer is that of the first of these that has one:
 ///
 /// - `Log` exactly where a line can't be read, with the first such line. `read_entry` tells the faults; besides, a pool that
 ///   the licence doesn't have is `BadNumber`, where the line has no other fault.

@@ -22,8 +22,8 @@ pub struct DaySum {
     pub day: u32,
     /// The most seats that were held after an entry of the day.
     pub peak: u32,
-    /// For how long seats were held, in seconds of one seat. The time from an entry up to the pool's next one counts for the
-    /// day on which it begins, and the time behind the pool's last entry doesn't count.
+    /// For how long seats were held, in seconds of one seat. The time from an entry up to the pool's next one counts
+    /// for the day on which it begins, and the time behind the pool's last entry doesn't count.
     pub seconds: u64,
     /// How many requests were answered Denied.
     pub denied: u64,

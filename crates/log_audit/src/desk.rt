@@ -49,8 +49,8 @@ impl Desk {
         }
     }
 
-    /// Makes the next entry of the pool, where a log's entry is that one; else says what holds in its place, and the desk is
-    /// good for nothing more. In the place of a request for a rule set that there isn't, a look holds.
+    /// Makes the next entry of the pool, where a log's entry is that one; else says what holds in its place, and the
+    /// desk is good for nothing more. In the place of a request for a rule set that there isn't, a look holds.
     fn judge(&mut self, entry: &Logged) -> Option<Expected>
         requires party { entry.now.entry.request.party < self.old.book.parties }
         requires few { self.old.entries < 2 ^ 64 - 1 }
@@ -74,8 +74,8 @@ impl Desk {
         self.entries += 1;
         None
     }
-    /// Makes the next entry of the pool, where a log's entry is that one, and counts it for its day; else says what holds in its
-    /// place, and the desk is good for nothing more.
+    /// Makes the next entry of the pool, where a log's entry is that one, and counts it for its day; else says what
+    /// holds in its place, and the desk is good for nothing more.
     pub(crate) fn take(&mut self, entry: &Logged) -> Result<Option<Expected>, NoMemory>
         requires party { entry.now.entry.request.party < self.old.book.parties }
         requires few { self.old.entries < 2 ^ 64 - 1 }

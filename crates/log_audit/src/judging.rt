@@ -20,8 +20,8 @@ pub(crate) struct NotRun {
     pub(crate) expected: Expected,
 }
 
-/// The first line that shows that a log is no run at these desks, which are at their opening; None where it is one, and then
-/// the desks tell its days.
+/// The first line that shows that a log is no run at these desks, which are at their opening; None where it is one, and
+/// then the desks tell its days.
 pub(crate) fn judge_all(desks: &mut [Desk], log: &[Numbered]) -> Result<Option<NotRun>, NoMemory>
     requires opening { StandAll (map sets_at desks.old) [] desks.old }
     requires fit { list_all (is_fit (length desks.old)) log.now ≡ true }

@@ -1,5 +1,5 @@
-//! A stored log, checked and summed apart from the daemon: whether it is a run of the machine under the files, and else the
-//! first line that shows it is not.
+//! A stored log, checked and summed apart from the daemon: whether it is a run of the machine under the files, and else
+//! the first line that shows it is not.
 #![tactic(auto)]
 
 mod audited;

@@ -57,11 +57,12 @@ fn push_some(log: &mut Vec<Numbered>, found: Option<Numbered>) -> Result<(), Aud
     Ok(())
 }
 
-/// The entries of a log of so many pools, in the order of its lines. Lines whose first word is LOG or TALLY are passed over.
+/// The entries of a log of so many pools, in the order of its lines. Lines whose first word is LOG or TALLY are passed
+/// over.
 ///
-/// `Log` comes exactly where a line can't be read, with the first such line. `read_entry` tells the faults; besides, the number
-/// of a pool that there isn't is `BadNumber`, where the line has no other fault. `NoMemory` comes where there is too little
-/// memory to hold the entries.
+/// `Log` comes exactly where a line can't be read, with the first such line. `read_entry` tells the faults; besides,
+/// the number of a pool that there isn't is `BadNumber`, where the line has no other fault. `NoMemory` comes where
+/// there is too little memory to hold the entries.
 pub fn read_log(alloc: Global, pools: usize, file: &[u8]) -> Result<Vec<Numbered>, AuditFault>
     requires { length file.now < 2 ^ 32 }
     ensures log { Reads (λ log. log.items) fault_told (log_of pools file.now) result }

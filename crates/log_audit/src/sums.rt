@@ -13,8 +13,8 @@ use lic_types::NoMemory;
 use std::alloc::Global;
 use std::marker::Model;
 
-/// The sums of a log. Contracts see them as the number of its entries, the list of the sums of its users and that of the sums
-/// of its days.
+/// The sums of a log. Contracts see them as the number of its entries, the list of the sums of its users and that of
+/// the sums of its days.
 #[derive(Drop)]
 pub struct Sums {
     entries: u64,

@@ -1,6 +1,8 @@
 //! Pushes entries into the queue of a log and takes them out, to measure what the two calls cost.
 //!
-//! `log_bench THREADS ROUNDS` makes a queue for each round and pushes 4,096 entries: with one thread they are taken out behind that, with two by another thread meanwhile. It prints the number of the entries that came out, so that a lost one shows.
+//! `log_bench THREADS ROUNDS` makes a queue for each round and pushes 4,096 entries: with one thread they are taken out
+//! behind that, with two by another thread meanwhile. It prints the number of the entries that came out, so that a lost
+//! one shows.
 #![tactic(auto)]
 
 ghost use Rattle.std.specs.Prelude.{◌≡◌};

@@ -21,8 +21,9 @@ pub fn standing_replies_agree()
     ensures { RunsAgree }
 {}
 
-/// At each state of a run a reply says what its party has after the step, unless it asked for a rule set: it is of holding
-/// exactly where the party is a told holder, and of queueing exactly where it waits or has a seat that it wasn't told of.
+/// At each state of a run a reply says what its party has after the step, unless it asked for a rule set: it is of
+/// holding exactly where the party is a told holder, and of queueing exactly where it waits or has a seat that it
+/// wasn't told of.
 pub fn replies_tell()
     ensures { RepliesTell }
 {}
@@ -55,14 +56,14 @@ pub fn denials_name_their_line()
     ensures { DenialsNameTheirLine }
 {}
 
-/// That there is no seat is said exactly to a Checkout of a party that has nothing and for which the rules find none, with
-/// how many seats are charged to Open and how many no RESERVE line keeps. The first is then at least the second.
+/// That there is no seat is said exactly to a Checkout of a party that has nothing and for which the rules find none,
+/// with how many seats are charged to Open and how many no RESERVE line keeps. The first is then at least the second.
 pub fn no_seat_is_left()
     ensures { NoSeatIsLeft }
 {}
 
-/// Where it is said that there is no seat, each RESERVE line that speaks of the client is used up, or all licences are in
-/// use.
+/// Where it is said that there is no seat, each RESERVE line that speaks of the client is used up, or all licences are
+/// in use.
 pub fn reserves_are_used_up()
     ensures { ReservesAreUsedUp }
 {}
@@ -73,20 +74,20 @@ pub fn max_counts_lingering()
     ensures { MaxCountsLingering }
 {}
 
-/// A seat is granted exactly where a party that has nothing asks for one and the rules grant it with this charge, or where
-/// a party that the queue served asks how it stands and its seat has this charge.
+/// A seat is granted exactly where a party that has nothing asks for one and the rules grant it with this charge, or
+/// where a party that the queue served asks how it stands and its seat has this charge.
 pub fn seats_are_granted()
     ensures { SeatsAreGranted }
 {}
 
-/// A seat is taken again exactly where a party that has nothing asks for one and the rules say that one with this charge
-/// lingers for its client.
+/// A seat is taken again exactly where a party that has nothing asks for one and the rules say that one with this
+/// charge lingers for its client.
 pub fn seats_are_retaken()
     ensures { SeatsAreRetaken }
 {}
 
-/// At each state of a run a party is told a position of the queue exactly where it waits at that position after the step,
-/// unless it asked for numbers or for a rule set.
+/// At each state of a run a party is told a position of the queue exactly where it waits at that position after the
+/// step, unless it asked for numbers or for a rule set.
 pub fn positions_are_told()
     ensures { PositionsAreTold }
 {}
@@ -112,8 +113,8 @@ pub fn seats_linger()
     ensures { SeatsLinger }
 {}
 
-/// A seat is returned exactly where a told holder gives it back and it doesn't linger, or a holder that wasn't told gives
-/// it back.
+/// A seat is returned exactly where a told holder gives it back and it doesn't linger, or a holder that wasn't told
+/// gives it back.
 pub fn seats_are_returned()
     ensures { SeatsAreReturned }
 {}
@@ -133,8 +134,8 @@ pub fn own_is_not_queued()
     ensures { OwnIsNotQueued }
 {}
 
-/// A step at the handed moment is the step at the moment that it used: the later of the state's and the handed one, which
-/// counts as 2^40 - 1 at most. The state after it has this moment.
+/// A step at the handed moment is the step at the moment that it used: the later of the state's and the handed one,
+/// which counts as 2^40 - 1 at most. The state after it has this moment.
 pub fn steps_use_their_moment()
     ensures { StepsUseTheirMoment }
 {}

@@ -1,9 +1,9 @@
-//! The options machine: what a desk keeps, what it can be asked, and what it answers, with the laws that hold of it. The
-//! definitions stand in specs/: whom rule lines speak of (Groups), what they say (Rules), the state of a pool (State), what
-//! the rules say to a client that wants a seat (Decide), how a state comes to a moment and its queue is served (Settle), what
-//! an answer changes (Apply), the table of answers (Step), runs of entries (Run) and what holds in each (Law), when each reply
-//! comes (Replies), what a party's own entries tell (Own), and what every step keeps (Kept). They are this project's own,
-//! after the options file of the FlexNet License Administration Guide.
+//! The options machine: what a desk keeps, what it can be asked, and what it answers, with the laws that hold of it.
+//! The definitions stand in specs/: whom rule lines speak of (Groups), what they say (Rules), the state of a pool
+//! (State), what the rules say to a client that wants a seat (Decide), how a state comes to a moment and its queue is
+//! served (Settle), what an answer changes (Apply), the table of answers (Step), runs of entries (Run) and what holds
+//! in each (Law), when each reply comes (Replies), what a party's own entries tell (Own), and what every step keeps
+//! (Kept). They are this project's own, after the options file of the FlexNet License Administration Guide.
 #![tactic(auto)]
 
 mod decision;

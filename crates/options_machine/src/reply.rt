@@ -160,8 +160,8 @@ impl Reply {
         }
     }
 
-    /// Whether it says that its party waits, or has a seat that it wasn't told of. This project's own: Queued, and Counts
-    /// with `queued`.
+    /// Whether it says that its party waits, or has a seat that it wasn't told of. This project's own: Queued, and
+    /// Counts with `queued`.
     pub fn is_of_queueing(&self) -> bool
         ensures { result ≡ is_of_queueing self.now }
     {

@@ -22,7 +22,8 @@ use std::alloc::Global;
 use std::marker::Model;
 
 /// What an options file says: its groups, its rules, and a note for each line that isn't acted on. Beside each note
-/// stands which of REPORTLOG, DEBUGLOG and NOLOG its line is. Who is in the groups is sorted once, when the file is read.
+/// stands which of REPORTLOG, DEBUGLOG and NOLOG its line is. Who is in the groups is sorted once, when the file is
+/// read.
 #[derive(Drop)]
 pub struct Options {
     roster: Roster,
@@ -57,8 +58,8 @@ impl Options {
         &self.roster
     }
 
-    /// The rules, in the order of the file. Each has a line of its own; the numbers of MAX and RESERVE are up to 65,535,
-    /// and seconds are below 2^40.
+    /// The rules, in the order of the file. Each has a line of its own; the numbers of MAX and RESERVE are up to
+    /// 65,535, and seconds are below 2^40.
     pub fn lines(&self) -> &[RuleLine]
         ensures lines { result.now ≡ self.now.lines }
         ensures rising { IsStrictlyIncreasing (map (λ l. l.line) self.now.lines) }
@@ -111,10 +112,10 @@ fn read_parts(alloc: Global, file: &[u8]) -> Result<Parts, OptionsFault>
 /// A type is USER, HOST, DISPLAY, PROJECT, GROUP, USER_GROUP, which is GROUP, or HOST_GROUP.
 ///
 /// The first line at fault decides. In one line the faults are tried in this order: `Line`; `TooMany` where 4,096 lines
-/// with words stand before it; `UnknownKeyword`; `MissingWord` where the form has more words; then the words from left to
-/// right, a number for `BadNumber`, a feature for `Selector` if it has a `:` and else for `BadName`, a type for
-/// `UnknownKind`, any other name for `BadName`; then `TooMany` where the group lines list more than 65,536 members up to
-/// here. `UnknownGroup` comes only where no line of the file has another fault, for the first rule of type GROUP or
+/// with words stand before it; `UnknownKeyword`; `MissingWord` where the form has more words; then the words from left
+/// to right, a number for `BadNumber`, a feature for `Selector` if it has a `:` and else for `BadName`, a type for
+/// `UnknownKind`, any other name for `BadName`; then `TooMany` where the group lines list more than 65,536 members up
+/// to here. `UnknownGroup` comes only where no line of the file has another fault, for the first rule of type GROUP or
 /// HOST_GROUP whose name no line of that kind has, earlier or later. `NoMemory` may come at any time. A refusal gives
 /// nothing.
 pub fn read_options(alloc: Global, file: &[u8]) -> Result<Options, OptionsFault>
@@ -132,9 +133,9 @@ pub fn read_options(alloc: Global, file: &[u8]) -> Result<Options, OptionsFault>
 
 /// Writes the canonical text of options: each group, rule and note at its own physical line, the lines between empty.
 ///
-/// Words have one space between, and one space more stands behind a last word that ends in a backslash, so that the line
-/// isn't continued. Keywords and types are in capitals, numbers without leading zeros; REPORTLOG, DEBUGLOG and NOLOG
-/// stand alone. Each line ends in LF. This form is this project's own.
+/// Words have one space between, and one space more stands behind a last word that ends in a backslash, so that the
+/// line isn't continued. Keywords and types are in capitals, numbers without leading zeros; REPORTLOG, DEBUGLOG and
+/// NOLOG stand alone. Each line ends in LF. This form is this project's own.
 ///
 /// `read_options` of the text gives equal options, so that writing those gives the same text.
 pub fn write_options(alloc: Global, options: &Options) -> Result<Vec<u8>, NoMemory>

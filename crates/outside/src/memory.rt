@@ -108,7 +108,8 @@ impl Files for MemFiles {
             → map string_bytes self.new.asked.failed.items ≡ map string_bytes self.old.asked.failed.items }
         ensures same { (other : List ℕ) → file_named self.new.files.items other ≡ file_named self.old.files.items other }
 
-        // A call that isn't listed to fail, on a name that is there, doesn't fail; one that is listed does, and each is counted.
+        // A call that isn't listed to fail, on a name that is there, doesn't fail; one that is listed does, and each is
+        // counted.
         ensures succeeds { is_listed self.old.failing.items self.old.calls ≡ false
             → IsSome (file_named self.old.files.items name.now) → result ≢ Err FileFault.Failed }
         ensures listed { is_listed self.old.failing.items self.old.calls ≡ true
@@ -173,7 +174,8 @@ impl Sink for MemSink {
         ensures steady { OnOk result (self.new.faults ≡ self.old.faults) }
         ensures later { self.old.faults ≤ self.new.faults }
 
-        // A call that isn't listed to fail takes a piece that finds room; one that is listed fails, and each is counted.
+        // A call that isn't listed to fail takes a piece that finds room; one that is listed fails, and each is
+        // counted.
         ensures succeeds { is_listed self.old.failing.items self.old.calls ≡ false
             → vec_len self.old.bytes + length piece.now ≤ vec_capacity self.old.bytes → IsOk result }
         ensures listed { is_listed self.old.failing.items self.old.calls ≡ true → IsErr result }

@@ -1,6 +1,7 @@
-//! The rules of a pool, made of an options file (`DeskRules`); what a book of a pool's state must be able to tell and to
-//! change (`Rows`), and the answers of the options machine over any such book (`step`, `glance`); and the plain book, which
-//! keeps the state as lists (`PlainBook`). The words of replies and the sides of a desk are passed on from the crates below.
+//! The rules of a pool, made of an options file (`DeskRules`); what a book of a pool's state must be able to tell and
+//! to change (`Rows`), and the answers of the options machine over any such book (`step`, `glance`); and the plain
+//! book, which keeps the state as lists (`PlainBook`). The words of replies and the sides of a desk are passed on from
+//! the crates below.
 #![tactic(auto)]
 
 mod anew;

@@ -88,8 +88,8 @@ fn retaken(lists: &Lists, client: &Client) -> Option<Charge>
         .map(|l| l.charge)
 }
 
-/// Whether a MAX line speaks of the client, and at least its number of seats, held or lingering, are of clients of whom it
-/// speaks.
+/// Whether a MAX line speaks of the client, and at least its number of seats, held or lingering, are of clients of whom
+/// it speaks.
 fn is_reached(rules: &DeskRules, lists: &Lists, client: &Client, limit: &Limit) -> bool
     ensures { result ≡ is_reached rules.now (state_of lists.now) client.now limit.now }
 {

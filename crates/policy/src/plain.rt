@@ -20,8 +20,8 @@ use options_machine::{Charge, Decision, Holder, Kind, Lingerer, Place, Queuer, R
 use std::alloc::Global;
 use std::marker::Model;
 
-/// The options machine of one pool, kept as lists: the plain reference. A clause sees it as its rule sets, the number of
-/// parties that it is for, and the state of the machine.
+/// The options machine of one pool, kept as lists: the plain reference. A clause sees it as its rule sets, the number
+/// of parties that it is for, and the state of the machine.
 #[derive(Drop)]
 pub struct PlainBook {
     sets: Vec<DeskRules>,
@@ -30,7 +30,7 @@ pub struct PlainBook {
 }
 
 impl Model for PlainBook {
-ghost use Rattle.policy.specs.Books.{Book};
+    ghost use Rattle.policy.specs.Books.{Book};
     ghost use Rattle.policy.specs.Kept.{IsBookKept, state_of};
 
     ghost Value = { Book };
@@ -41,8 +41,8 @@ ghost use Rattle.policy.specs.Books.{Book};
 }
 
 impl PlainBook {
-    /// A book in the opening state, with one to four rule sets of one count, for the parties below `n`. The set of number
-    /// 0 holds until a request asks for another. The room for all that parties may ask for later is taken here.
+    /// A book in the opening state, with one to four rule sets of one count, for the parties below `n`. The set of
+    /// number 0 holds until a request asks for another. The room for all that parties may ask for later is taken here.
     pub fn make_many(alloc: Global, sets: Vec<DeskRules>, n: u32) -> Result<PlainBook, NoMemory>
         requires sets { AreSets sets.items (in_force sets.items opening).count }
         requires parties { n ≤ PARTY_LIMIT }
@@ -98,9 +98,9 @@ impl PlainBook {
         answers::glance(self, front)
     }
 
-    /// One step of the machine at a moment, in seconds since 1970-01-01 UTC: what is over goes, the queue is served, and the
-    /// request is answered. The number is the moment that the step used: the later of the handed one, which counts as
-    /// 2^40 - 1 at most, and the last one used. It takes no memory.
+    /// One step of the machine at a moment, in seconds since 1970-01-01 UTC: what is over goes, the queue is served,
+    /// and the request is answered. The number is the moment that the step used: the later of the handed one, which
+    /// counts as 2^40 - 1 at most, and the last one used. It takes no memory.
     pub fn step(&mut self, request: &Request, moment: u64) -> (Reply, u64)
         requires party { request.now.party < self.old.parties }
         requires fits { AsksForSet self.old.sets request.now }

@@ -13,8 +13,8 @@ ghost use Rattle.options_machine.specs.Step.{entry_left, position_of, reread};
 use lic_types::Client;
 use options_machine::{Charge, Decision, Holder, Lingerer, Place};
 
-/// The rows of a book: what can be asked of the state of one pool, and each way in which it changes. Whatever keeps them
-/// so answers as the options machine does (`step`). None of these calls takes memory.
+/// The rows of a book: what can be asked of the state of one pool, and each way in which it changes. Whatever keeps
+/// them so answers as the options machine does (`step`). None of these calls takes memory.
 pub trait Rows {
     /// What is kept: the rule sets, the number of parties, and the machine's state.
     ghost seen: { Self → Book };

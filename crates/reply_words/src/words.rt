@@ -5,8 +5,8 @@ ghost use Rattle.reply_words.specs.Words.{charge_text, own_text, reply_text};
 use crate::room::{put, put_number};
 use options_machine::{Charge, Reply};
 
-/// Writes the words of a charge behind the first `at` bytes of a room, and gives the offset behind them. They take 28 bytes
-/// at most.
+/// Writes the words of a charge behind the first `at` bytes of a room, and gives the offset behind them. They take 28
+/// bytes at most.
 pub fn put_charge(room: &mut [u8], at: usize, charge: &Charge) -> usize
     requires { at + 28 ≤ length room.old }
     ensures room { length room.new ≡ length room.old }
@@ -46,8 +46,8 @@ fn put_own(room: &mut [u8], at: usize, own: bool, queued: bool) -> usize
     }
 }
 
-/// Writes the words of a reply behind the first `at` bytes of a room, and gives the offset behind them. They take 130 bytes
-/// at most.
+/// Writes the words of a reply behind the first `at` bytes of a room, and gives the offset behind them. They take 130
+/// bytes at most.
 #[tactic(auto, using(std::proofs::lemmas::List::append_assoc))]
 pub fn put_reply(room: &mut [u8], at: usize, reply: &Reply) -> usize
     requires { at + 130 ≤ length room.old }
@@ -99,8 +99,8 @@ pub fn put_reply(room: &mut [u8], at: usize, reply: &Reply) -> usize
     }
 }
 
-/// Writes the words of a reply at the start of the room, and gives how many bytes they take, 130 at most. The bytes of the
-/// room behind them are left open.
+/// Writes the words of a reply at the start of the room, and gives how many bytes they take, 130 at most. The bytes of
+/// the room behind them are left open.
 pub fn reply_words(reply: &Reply, room: &mut [u8; 160]) -> usize
     ensures offset { result ≤ 130 }
     ensures written { take result room.new ≡ reply_text reply.now }

@@ -33,9 +33,9 @@ fn read_line(line: Result<Line<'_>, TextFault>) -> Result<ScriptLine, ScriptFaul
 /// - `moment party user host display project VERB feature`, VERB being CHECKIN, BEAT, LOOK, STATUS or QUIT
 /// - `moment party user host display project REREAD number`
 ///
-/// in just these capitals. The moment is in seconds since 1970-01-01 UTC and below 2^40, the party is below 256, and the
-/// number is that of a rule set, below 2^32. STATUS asks for the numbers of the pool (`Kind::Count`). The grammar is this
-/// project's own.
+/// in just these capitals. The moment is in seconds since 1970-01-01 UTC and below 2^40, the party is below 256, and
+/// the number is that of a rule set, below 2^32. STATUS asks for the numbers of the pool (`Kind::Count`). The grammar
+/// is this project's own.
 ///
 /// `Fault` comes exactly where a line is at fault, and names the first such line. Its faults are tried in this order:
 ///

@@ -34,8 +34,8 @@ fn put_reply_line(reply: &Reply, place: u64, room: &mut [u8; 256]) -> usize
     put(room, at, b"\n")
 }
 
-/// Writes the output line of a line whose pools have all expired, the first of them at the end of this day, into a room,
-/// and gives how many bytes it takes.
+/// Writes the output line of a line whose pools have all expired, the first of them at the end of this day, into a
+/// room, and gives how many bytes it takes.
 fn put_expired_line(day: &Day, room: &mut [u8; 256]) -> usize
     ensures place { result ≤ 256 }
     ensures written { take result room.new ≡ codes "EXPIRED " ++ day_text day.now ++ 10 ∷ [] }

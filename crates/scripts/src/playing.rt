@@ -118,9 +118,9 @@ fn play_lines<O: Sink>(
     Ok(())
 }
 
-/// Plays a script on the pools of a licence, each with one rule set for each of the options files, and writes one output
-/// line for each of its lines, in order. The set of number 0 holds at first. Where a write fails, a prefix of these lines
-/// was written.
+/// Plays a script on the pools of a licence, each with one rule set for each of the options files, and writes one
+/// output line for each of its lines, in order. The set of number 0 holds at first. Where a write fails, a prefix of
+/// these lines was written.
 ///
 /// A REREAD line makes an entry at each pool and is answered `REREAD n`, where there is a set of its number, and else
 /// `NORULES n`. Any other line goes to the first pool of its feature's name at which its party holds a seat or waits by
@@ -129,8 +129,8 @@ fn play_lines<O: Sink>(
 /// reply's words with the place of its entry in the pool, from 0, or `UNKNOWN`, or `EXPIRED d-mmm-yyyy`, where no entry
 /// is made. These lines are this project's own.
 ///
-/// `WriteFailed` comes exactly where a write fails. `NoMemory` comes where there is too little memory for the books of the
-/// pools; all memory is taken before the first write.
+/// `WriteFailed` comes exactly where a write fails. `NoMemory` comes where there is too little memory for the books of
+/// the pools; all memory is taken before the first write.
 pub fn play<O: Sink>(
     alloc: Global,
     licence: &Licence,

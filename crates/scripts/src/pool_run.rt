@@ -31,7 +31,8 @@ fn keeps_place(reply: &Reply) -> bool
     reply.is_of_holding() || reply.is_of_queueing()
 }
 
-/// Notes whether the party of a line keeps a place after a reply. A line that asks for a rule set moves no party's place.
+/// Notes whether the party of a line keeps a place after a reply. A line that asks for a rule set moves no party's
+/// place.
 fn note_place(places: &mut [bool; PARTIES], line: &ScriptLine, reply: &Reply)
     requires party { line.now.party < PARTY_LIMIT }
     ensures { places.new ≡ places_with places.old line.now reply.now }

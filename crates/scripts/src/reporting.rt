@@ -42,8 +42,8 @@ fn put_reports(alloc: Global, text: &mut Vec<u8>, runs: &[PoolRun]) -> Result<()
     Ok(())
 }
 
-/// Plays a script on the pools of a licence as [`crate::play`] does, but writes none of its output lines: the text that it gives
-/// tells of each pool how it stands after the last line. The one error is want of memory.
+/// Plays a script on the pools of a licence as [`crate::play`] does, but writes none of its output lines: the text that
+/// it gives tells of each pool how it stands after the last line. The one error is want of memory.
 pub fn report_script(
     alloc: Global,
     licence: &Licence,

@@ -22,8 +22,8 @@ fn first_named(runs: &[PoolRun], name: &Name) -> Option<usize>
     runs.iter().position(|run| run.pool.name == *name)
 }
 
-/// Where a line of a party that keeps no place goes: with a version to the pool that serves it at the line's own moment,
-/// and else to the first pool of the name.
+/// Where a line of a party that keeps no place goes: with a version to the pool that serves it at the line's own
+/// moment, and else to the first pool of the name.
 fn route(licence: &Licence, runs: &[PoolRun], line: &ScriptLine, name: &Name) -> Found
     requires { pools_of runs.now ≡ licence.now.pools }
     ensures { result ≡ routed run_walk runs.now name.now line.now.moment line.now.version }

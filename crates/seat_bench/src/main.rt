@@ -1,6 +1,9 @@
 //! Enters and leaves the seats of a net from several threads, to measure what a pair of calls costs.
 //!
-//! `seat_bench chain N K THREADS ROUNDS` makes the seats of `chain(N, K)`, and the first THREADS of the N parties enter and leave ROUNDS times each, every one in a thread of its own; `seat_bench tree ..` does so with `tree(N, K)`. It prints the number of the pairs, so that a lost one shows. With no threads it only makes the seats, to measure their memory.
+//! `seat_bench chain N K THREADS ROUNDS` makes the seats of `chain(N, K)`, and the first THREADS of the N parties enter
+//! and leave ROUNDS times each, every one in a thread of its own; `seat_bench tree ..` does so with `tree(N, K)`. It
+//! prints the number of the pairs, so that a lost one shows. With no threads it only makes the seats, to measure their
+//! memory.
 #![tactic(auto)]
 
 ghost use Rattle.std.specs.Prelude.{◌≡◌, ◌≤◌, IfOk};
@@ -43,7 +46,7 @@ impl Kind {
     }
 }
 
-// Enters and leaves so often, and counts.
+/// Enters and leaves so often, and counts.
 fn pairs<R: Wait>(rt: &R, seats: &Seats, mut out: Out, rounds: u32) -> u64
     requires { out.table ≡ seats.now }
 {

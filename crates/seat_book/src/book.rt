@@ -26,8 +26,8 @@ use seat_rows::SeatRows;
 use std::alloc::Global;
 use std::marker::Model;
 
-/// The book of one pool: the options machine, kept by rows. A clause sees its rule sets, the number of parties that it is for,
-/// the state of the machine, and how many replies brought a seat.
+/// The book of one pool: the options machine, kept by rows. A clause sees its rule sets, the number of parties that it
+/// is for, the state of the machine, and how many replies brought a seat.
 #[derive(Drop)]
 pub struct Book {
     sets: Vec<DeskRules>,
@@ -57,9 +57,9 @@ fn grants_after(grants: u64, reply: &Reply) -> u64
 }
 
 impl Book {
-    /// A book in the opening state, with one to four rule sets of one count, for the parties below `n`. The set of number
-    /// 0 holds until a request asks for another. All memory is taken here, for all that parties may ask for later. The one
-    /// error is want of memory.
+    /// A book in the opening state, with one to four rule sets of one count, for the parties below `n`. The set of
+    /// number 0 holds until a request asks for another. All memory is taken here, for all that parties may ask for
+    /// later. The one error is want of memory.
     pub fn make_many(alloc: Global, sets: Vec<DeskRules>, n: u32) -> Result<Book, NoMemory>
         requires sets { AreSets sets.items (in_force sets.items opening).count }
         requires parties { n ≤ PARTY_LIMIT }
@@ -121,9 +121,9 @@ impl Book {
         policy::glance(self, front)
     }
 
-    /// One step of the machine at a moment, in seconds since 1970-01-01 UTC: what is over goes, the queue is served, and the
-    /// request is answered. The number is the moment that the step used: the later of the handed one, which counts as
-    /// 2^40 - 1 at most, and the last one used. It takes no memory.
+    /// One step of the machine at a moment, in seconds since 1970-01-01 UTC: what is over goes, the queue is served,
+    /// and the request is answered. The number is the moment that the step used: the later of the handed one, which
+    /// counts as 2^40 - 1 at most, and the last one used. It takes no memory.
     pub fn step(&mut self, request: &Request, moment: u64) -> (Reply, u64)
         requires party { request.now.party < self.old.parties }
         requires fits { AsksForSet self.old.sets request.now }
@@ -176,7 +176,8 @@ impl Book {
         self.parts.table.len()
     }
 
-    /// The lingering seat at a place in the order in which they came, from 0; None exactly where there are no more than `at`.
+    /// The lingering seat at a place in the order in which they came, from 0; None exactly where there are no more than
+    /// `at`.
     pub fn linger_at(&self, at: u32) -> Option<Lingerer>
         ensures { result ≡ slice_get self.now.state.lingering at }
     {
@@ -198,7 +199,8 @@ impl Book {
         self.parts.queue.as_slice()
     }
 
-    /// The party that waits at a place of the queue, from 0, with its client; None exactly where there are no more than `at`.
+    /// The party that waits at a place of the queue, from 0, with its client; None exactly where there are no more than
+    /// `at`.
     pub fn queued_at(&self, at: u32) -> Option<Queuer>
         ensures { result ≡ slice_get self.now.state.queue at }
     {

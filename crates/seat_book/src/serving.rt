@@ -54,8 +54,8 @@ fn serve(rules: &DeskRules, parts: &mut Parts)
     }
 }
 
-/// Brings the parts to the moment: what is over goes, and then the queue is served, unless that was done since something may
-/// have freed a seat.
+/// Brings the parts to the moment: what is over goes, and then the queue is served, unless that was done since
+/// something may have freed a seat.
 pub(crate) fn settle(rules: &DeskRules, parts: &mut Parts, moment: u64)
     requires servable { IsServable rules.now parts.old }
     requires unheard { heard_after parts.old.moment parts.old.seats.holders ≡ 0 }

@@ -114,8 +114,8 @@ pub(crate) fn first_used_up(rules: &DeskRules, client: &Client, counts: &[u32]) 
     None
 }
 
-/// Whether a RESERVE line speaks of the client and its count is below its cut number. The count is looked at first, since
-/// it costs less.
+/// Whether a RESERVE line speaks of the client and its count is below its cut number. The count is looked at first,
+/// since it costs less.
 fn has_seat(rules: &DeskRules, client: &Client, limit: &Limit, count: u32) -> bool
     ensures { result ≡ has_seat rules.now client.now limit.now count }
 {

@@ -14,8 +14,8 @@ use std::alloc::Global;
 use std::marker::Model;
 
 /// How many seats of a book, held or lingering, are charged to Open, how many to each RESERVE line, and how many are of
-/// clients of whom each MAX line speaks. The rules are handed in with each call. A clause sees the counts, and for how many
-/// lines there is room.
+/// clients of whom each MAX line speaks. The rules are handed in with each call. A clause sees the counts, and for how
+/// many lines there is room.
 #[derive(Drop)]
 pub struct Counters {
     taken: u32,
@@ -55,8 +55,8 @@ fn most_maxes(sets: &[DeskRules]) -> usize
 }
 
 impl Counters {
-    /// Counters with room for the lines of each of these rule sets, which count for no line yet: `clear` is to come first.
-    /// The room is taken here. The one error is want of memory.
+    /// Counters with room for the lines of each of these rule sets, which count for no line yet: `clear` is to come
+    /// first. The room is taken here. The one error is want of memory.
     pub fn make(alloc: Global, sets: &[DeskRules]) -> Result<Counters, NoMemory>
         ensures counts { IfOk result (λ made. made.counts ≡ record { taken = 0; reserves = []; maxes = [] }) }
         ensures room { IfOk result (λ made. (k : ℕ) → k < length sets.now → HasRoomFor (set_at sets.now k) made) }
@@ -108,8 +108,8 @@ impl Counters {
         lower_matched(self.maxes.as_mut_slice(), rules, client);
     }
 
-    /// The number of the first MAX line that speaks of the client and whose count has come to its number; None where there
-    /// is none.
+    /// The number of the first MAX line that speaks of the client and whose count has come to its number; None where
+    /// there is none.
     pub fn reached(&self, rules: &DeskRules, client: &Client) -> Option<u32>
         requires { AreOf rules.now self.now.counts }
         ensures { result ≡ first_line (is_used_up rules.now client.now) rules.now.maxes self.now.counts.maxes }
@@ -117,8 +117,8 @@ impl Counters {
         first_used_up(rules, client, self.maxes.as_slice())
     }
 
-    /// The number of the first RESERVE line that speaks of the client and whose count is below its cut number; None where
-    /// there is none.
+    /// The number of the first RESERVE line that speaks of the client and whose count is below its cut number; None
+    /// where there is none.
     pub fn reserved(&self, rules: &DeskRules, client: &Client) -> Option<u32>
         requires { AreOf rules.now self.now.counts }
         ensures { result ≡ first_line (has_seat rules.now client.now) rules.now.reserves self.now.counts.reserves }

@@ -21,19 +21,21 @@ use std::sync::Wait;
 use std::time::Duration;
 use std::{hint, thread};
 
-// so many rounds of a wait spin, those up to the second number yield, and the later ones sleep
+/// So many rounds of a wait spin, those up to the second number yield, and the later ones sleep.
 const SPINS: u32 = 100;
 
 const YIELDS: u32 = 500;
 
-// the first sleep of a wait and the longest
+/// The first sleep of a wait and the longest.
 const FIRST_NAP_MICROS: u64 = 50;
 
 const LONGEST_NAP_MICROS: u64 = 1000;
 
 /// The seats of a net, as many as its width. Threads share them by reference.
 ///
-/// Contracts see them as the `TableNet` of their table of words: its `id` tells it from others, and `net` is its net. Each call that takes a pass has the condition that the pass is of this table. The accesses that a call makes are those that are due, one after another, by the listing of `kex_core`.
+/// Contracts see them as the `TableNet` of their table of words: its `id` tells it from others, and `net` is its net.
+/// Each call that takes a pass has the condition that the pass is of this table. The accesses that a call makes are
+/// those that are due, one after another, by the listing of `kex_core`.
 #[derive(Drop)]
 pub struct Seats {
     table: KexTable,
@@ -83,7 +85,8 @@ impl Seats {
 
     /// One turn of a party among the stages: the one access that is due.
     ///
-    /// Again comes exactly where this access read the spin word and found the party's own number, or was Dec with old 0, Mark, or Look with the counter below 0, or passed a stage whose next isn't Exit.
+    /// Again comes exactly where this access read the spin word and found the party's own number, or was Dec with old
+    /// 0, Mark, or Look with the counter below 0, or passed a stage whose next isn't Exit.
     pub fn turn(&self, e: Entering) -> Turn
         requires own { e.table ≡ self.now }
         ensures same { ((pass_in_turn result).table ≡ e.table) × ((pass_in_turn result).number ≡ e.number) }
@@ -96,7 +99,8 @@ impl Seats {
 
     /// Gives a party that is through the stages its number and the seat's card.
     ///
-    /// It tests the bits one after another until it finds one that was not set, at most one less than the width, and takes the card.
+    /// It tests the bits one after another until it finds one that was not set, at most one less than the width, and
+    /// takes the card.
     pub fn name(&self, t: Through) -> Hold
         requires own { (pass_in_through t).table ≡ self.now }
         ensures same { (result.pass.table ≡ (pass_in_through t).table) × (result.pass.number ≡ (pass_in_through t).number) }
@@ -127,7 +131,8 @@ impl Seats {
 
     /// Goes on from a turn at any step: takes turns until the party is through, and then its seat.
     ///
-    /// It may wait forever. While it waits at a spin word it spins a little, then lets other threads run, and then sleeps between its reads, for a millisecond at most.
+    /// It may wait forever. While it waits at a spin word it spins a little, then lets other threads run, and then
+    /// sleeps between its reads, for a millisecond at most.
     pub fn go_on<R: Wait>(&self, rt: &R, mut turn: Turn) -> Hold
         requires own { (pass_in_turn turn).table ≡ self.now }
         ensures same { (result.pass.table ≡ (pass_in_turn turn).table) × (result.pass.number ≡ (pass_in_turn turn).number) }
@@ -150,7 +155,8 @@ impl Seats {
         unreachable!()
     }
 
-    /// Leaves: gives the card back, clears the seat's bit where it has one, and goes back through the stages of the party's path, raising each one's counter and then writing its spin word.
+    /// Leaves: gives the card back, clears the seat's bit where it has one, and goes back through the stages of the
+    /// party's path, raising each one's counter and then writing its spin word.
     pub fn leave(&self, hold: Hold) -> Out
         requires own { hold.pass.table ≡ self.now }
         ensures same { (result.table ≡ hold.pass.table) × (result.number ≡ hold.pass.number) }
@@ -171,7 +177,9 @@ impl Seats {
 
     /// Takes all passes in, and gives the cards back, in the order of their numbers.
     ///
-    /// The uses of card s are the number of times that s was taken by the passes, modulo 2^64. So the uses of all cards together are as many as the numbers that the passes took. Each number of a party is that of one pass. It takes no memory and waits for nobody.
+    /// The uses of card s are the number of times that s was taken by the passes, modulo 2^64. So the uses of all cards
+    /// together are as many as the numbers that the passes took. Each number of a party is that of one pass. It takes
+    /// no memory and waits for nobody.
     pub fn close(self, passes: Vec<Out>) -> Vec<Card>
         requires count { vec_len passes ≡ self.net.parties }
         requires own { All (λ p. p.table ≡ self) passes.items }
@@ -199,7 +207,9 @@ impl Seats {
 
     /// Gives the cards back, in the order of their numbers, once all passes were taken in.
     ///
-    /// The uses of card s are the number of times that s was taken by the passes, modulo 2^64. So the uses of all cards together are as many as the numbers that the passes took. Each number of a party is that of one pass. It takes no memory and waits for nobody.
+    /// The uses of card s are the number of times that s was taken by the passes, modulo 2^64. So the uses of all cards
+    /// together are as many as the numbers that the passes took. Each number of a party is that of one pass. It takes
+    /// no memory and waits for nobody.
     pub fn close_gathered(self, gathering: Gathering) -> Vec<Card>
         requires own { gathering.table ≡ self }
         requires count { length gathering.numbers ≡ self.net.parties }
@@ -214,7 +224,7 @@ impl Seats {
         table.close_gathered(gathering)
     }
 
-    // the access that is due among the stages
+    /// The access that is due among the stages.
     fn access(&self, e: Entering) -> Next
         requires own { e.table ≡ self.now }
         ensures same { ((pass_in_next result).table ≡ e.table) × ((pass_in_next result).number ≡ e.number) }
@@ -231,7 +241,7 @@ impl Seats {
         }
     }
 
-    // the number that the tests give, or that the party has already
+    /// The number that the tests give, or that the party has already.
     fn number(&self, t: Through) -> Named
         requires own { (pass_in_through t).table ≡ self.now }
         ensures same { (result.table ≡ (pass_in_through t).table) × (result.number ≡ (pass_in_through t).number) }
@@ -245,7 +255,7 @@ impl Seats {
         }
     }
 
-    // tests bits until one was not set
+    /// Tests bits until one was not set.
     fn test(&self, mut naming: Naming) -> Named
         requires own { naming.table ≡ self.now }
         ensures same { (result.table ≡ naming.table) × (result.number ≡ naming.number) }
@@ -263,7 +273,7 @@ impl Seats {
         }
     }
 
-    // the access that is due on the way out
+    /// The access that is due on the way out.
     fn retreat(&self, l: Leaving) -> Back
         requires own { l.table ≡ self.now }
         ensures same { ((pass_in_back result).table ≡ l.table) × ((pass_in_back result).number ≡ l.number) }
@@ -278,7 +288,8 @@ impl Seats {
         }
     }
 
-    // One round of a wait at a spin word, of which there were so many before: a short spin, then a yield, then sleeps that grow. It gives the rounds with this one, and 0 where the party doesn't wait.
+    /// One round of a wait at a spin word, of which there were so many before: a short spin, then a yield, then sleeps
+    /// that grow. It gives the rounds with this one, and 0 where the party doesn't wait.
     fn pause<R: Wait>(&self, rt: &R, e: &Entering, waited: u32) -> u32
         requires own { e.now.table ≡ self.now }
     {

@@ -24,7 +24,7 @@ pub enum Through {
 }
 
 impl Turn {
-    // sorts a pass by whether it is through
+    /// Sorts a pass by whether it is through.
     pub(crate) fn of(next: Next) -> Turn
         ensures same { pass_in_turn result ≡ pass_in_next next }
         ensures kind { kind_in_turn result ≡ kind_in_next next }

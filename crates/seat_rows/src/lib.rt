@@ -1,8 +1,8 @@
 //! The seats of a pool by rows: which party has one, and whose goes because the party was not heard.
 //!
-//! Each party has a row, which holds its seat, and the beats of all seats stand in a clock. So no call goes through the holders:
-//! each costs the same whatever their number, but for the clock, whose cost grows by a logarithm. All memory is taken when the
-//! rows are made.
+//! Each party has a row, which holds its seat, and the beats of all seats stand in a clock. So no call goes through the
+//! holders: each costs the same whatever their number, but for the clock, whose cost grows by a logarithm. All memory
+//! is taken when the rows are made.
 #![tactic(auto)]
 
 ghost use Rattle.std.specs.Prelude.{◌≡◌, ◌+◌, ◌==◌, ◌<◌, ◌≤◌, [], None, Some, Bool, if◌then◌else◌, IfNone, IfOk, IfSome, count_by, filter, find, length, map, not};
@@ -133,8 +133,8 @@ impl SeatRows {
         }
     }
 
-    /// Tells the party of its seat, or hears it, at the moment `now`, in seconds since 1970-01-01 UTC. Nothing changes where it
-    /// has no seat.
+    /// Tells the party of its seat, or hears it, at the moment `now`, in seconds since 1970-01-01 UTC. Nothing changes
+    /// where it has no seat.
     pub fn tell(&mut self, party: u32, now: u64)
         requires { party < self.old.parties }
         ensures { self.new ≡ record self.old { holders = map (λ h. told_if (is_holder party h) now h) self.old.holders } }
@@ -156,8 +156,8 @@ impl SeatRows {
         }
     }
 
-    /// Takes away the seat of one party that was not heard after the moment `over`, in seconds since 1970-01-01 UTC, and gives it;
-    /// `None` where every holder was heard after it, and then nothing has changed.
+    /// Takes away the seat of one party that was not heard after the moment `over`, in seconds since 1970-01-01 UTC,
+    /// and gives it; `None` where every holder was heard after it, and then nothing has changed.
     pub fn let_one_go(&mut self, over: u64) -> Option<Holder>
         ensures seat { IfSome result (λ h. find (is_holder h.party) self.old.holders ≡ Some h) }
         ensures silent { IfSome result (λ h. h.beat ≤ over) }

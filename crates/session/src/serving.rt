@@ -232,8 +232,8 @@ fn serve<R: Wait, C: Counter, L: Link, K: Clock, G: Gate, B: Bell>(
 ///
 /// `pass` has one counter for each pool of the office, of that pool's desk, and none of them is holding or queued. The
 /// moments are in seconds since 1970-01-01 UTC. It takes no memory but what a desk's step takes. Each end comes exactly
-/// where [`SessionEnd`] says: `LinkFault` only where the link's faults rose in this call, `Stopped` only where its quiets and
-/// the bell's tolls rose, `Down` exactly where the bell's rings rose. The protocol is this project's own.
+/// where [`SessionEnd`] says: `LinkFault` only where the link's faults rose in this call, `Stopped` only where its
+/// quiets and the bell's tolls rose, `Down` exactly where the bell's rings rose. The protocol is this project's own.
 pub fn serve_session<R: Wait, C: Counter, L: Link, K: Clock, G: Gate, B: Bell>(
     rt: &R,
     office: &OfficeView<C::Desk>,

@@ -1,4 +1,5 @@
-//! The outside as a session sees it: the link to a client, the clock, the bell that stops all sessions, and the gate at which a test can hold one; all of them in memory too.
+//! The outside as a session sees it: the link to a client, the clock, the bell that stops all sessions, and the gate at
+//! which a test can hold one; all of them in memory too.
 #![tactic(auto)]
 
 mod bell;

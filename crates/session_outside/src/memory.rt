@@ -126,7 +126,8 @@ pub struct MemLink {
 }
 
 impl MemLink {
-    /// A link that feeds this, of which the calls of these numbers, counted from 0, fail, and which keeps its talk here.
+    /// A link that feeds this, of which the calls of these numbers, counted from 0, fail, and which keeps its talk
+    /// here.
     pub fn make(feeds: Vec<Feed>, failing: Vec<u64>, talk: Talk) -> MemLink
         ensures { result ≡ record { feeds = feeds; at = 0; read = 0; failing = failing; calls = 0; faults = 0; quiets = 0; talk = talk } }
     {

@@ -22,7 +22,8 @@ use std::sync::Wait;
 
 /// What publishes the Glances of one desk. It can't be dropped: [`Board::end`] ends it.
 ///
-/// Contracts see it as a `Posted`: the `front` that was published last, and whether it is `live`. A board that isn't live publishes nothing any more.
+/// Contracts see it as a `Posted`: the `front` that was published last, and whether it is `live`. A board that isn't
+/// live publishes nothing any more.
 pub struct Board {
     head: Head,
     writer: NoteWriter,
@@ -42,7 +43,8 @@ impl Model for Board {
 }
 
 impl Board {
-    /// A board with a pass for each of `n` parties, from 1 to 256. It shows the opening state under the rule sets that `M` tells of `about`, and that is all that its passes know.
+    /// A board with a pass for each of `n` parties, from 1 to 256. It shows the opening state under the rule sets that
+    /// `M` tells of `about`, and that is all that its passes know.
     ///
     /// It is refused only where there is too little memory. It waits for nobody, since there is no reader yet.
     pub fn make<R: Wait, X, M: Ruling<X>>(
@@ -75,7 +77,8 @@ impl Board {
 
     /// Publishes the numbers of the state after one entry more. The Glance's front is set here.
     ///
-    /// A board that isn't live stays as it was. Where there is no memory, or a front of 2^64 would be next, the board isn't live any more. It waits for those who still read what was published before the last.
+    /// A board that isn't live stays as it was. Where there is no memory, or a front of 2^64 would be next, the board
+    /// isn't live any more. It waits for those who still read what was published before the last.
     pub fn publish<R: Wait>(&mut self, rt: &R, entry: &Entry, glance: Glance)
         requires numbers { self.old.live ≡ true → HasNumbers self.old.front.sets (self.old.front.list ++ entry.now ∷ []) glance }
         ensures { ((self.old.live ≡ true) × (self.new ≡ record self.old { front = longer self.old.front (entry.now) })) ⊎ (self.new ≡ record self.old { live = false }) }
@@ -120,7 +123,7 @@ impl Board {
     }
 }
 
-// Publishes what is pending.
+/// Publishes what is pending.
 fn show<R: Wait>(writer: NoteWriter, rt: &R) -> (NoteWriter, ())
     requires { IsLater writer.desk.shown.value (last_of writer.desk.shown.value (drop writer.behind writer.log.items)) }
     ensures { IsPublished result.0.desk.shown.value (view result.0.desk.place) (drop result.0.behind result.0.log.items) (last_of writer.desk.shown.value (drop writer.behind writer.log.items)) }
@@ -129,7 +132,7 @@ fn show<R: Wait>(writer: NoteWriter, rt: &R) -> (NoteWriter, ())
     (writer, ())
 }
 
-// Gives each party a pass, with a reader where there is a place for it.
+/// Gives each party a pass, with a reader where there is a place for it.
 fn deal(writer: &mut NoteWriter, note: &BoardNote, passes: &mut Vec<BoardPass>, n: u32)
     requires published { IsPublished writer.old.desk.shown.value (view writer.old.desk.place) (drop writer.old.behind writer.old.log.items) note.now }
     requires room { (passes.old.items ≡ []) × (n ≤ vec_capacity passes.old) }
@@ -143,7 +146,7 @@ fn deal(writer: &mut NoteWriter, note: &BoardNote, passes: &mut Vec<BoardPass>, 
     }
 }
 
-// A reader that knows what was published last, where there is a place for one.
+/// A reader that knows what was published last, where there is a place for one.
 fn informed(writer: &mut NoteWriter, note: &BoardNote) -> Option<NoteReader>
     requires published { IsPublished writer.old.desk.shown.value (view writer.old.desk.place) (drop writer.old.behind writer.old.log.items) note.now }
     ensures published { IsPublished writer.new.desk.shown.value (view writer.new.desk.place) (drop writer.new.behind writer.new.log.items) note.now }

@@ -4,7 +4,8 @@ ghost use Rattle.std.specs.Prelude.{◌≡◌, ◌<◌, ◌∷◌, [], length};
 use logbook::{Opening, Rule, Seen, Start};
 use std::marker::{Model, PhantomData};
 
-/// Tells which rule sets a value keeps, as a book keeps those of its desk. A type with no values implements it for the type of the book.
+/// Tells which rule sets a value keeps, as a book keeps those of its desk. A type with no values implements it for the
+/// type of the book.
 pub trait Ruling<X> {
     ghost use Rattle.std.specs.Prelude.{List};
     ghost use Rattle.options_machine.specs.Rules.{Rules};
@@ -13,7 +14,7 @@ pub trait Ruling<X> {
     ghost sets: { X → List Rules };
 }
 
-// Rule sets, as the type of a law book's one entry. No value of it is made.
+/// Rule sets, as the type of a law book's one entry. No value of it is made.
 pub(crate) struct RuleSets;
 
 impl Model for RuleSets {
@@ -25,7 +26,7 @@ impl Model for RuleSets {
     ghost view = { λ _. [] };
 }
 
-// The rule of a book that opens with one entry, has no words and never changes.
+/// The rule of a book that opens with one entry, has no words and never changes.
 pub(crate) struct Still;
 
 impl Rule<RuleSets, u64> for Still {
@@ -45,7 +46,7 @@ impl Rule<RuleSets, u64> for Still {
     ghost moves = { λ _ _ _ _. Unit {0} };
 }
 
-// The book opens with the rule sets of a value.
+/// The book opens with the rule sets of a value.
 pub(crate) struct About<M> {
     of: PhantomData<M>,
 }
@@ -56,9 +57,9 @@ impl<X, M: Ruling<X>> Opening<X, RuleSets> for About<M> {
     ghost log = { λ _ x. M.sets x ∷ [] };
 }
 
-// The rule sets of a board: what its law book opened with. It can be copied, and takes no bytes.
-//
-// Contracts see it as the list of the rule sets.
+/// The rule sets of a board: what its law book opened with. It can be copied, and takes no bytes.
+///
+/// Contracts see it as the list of the rule sets.
 #[derive(Drop)]
 pub(crate) struct Law {
     seen: Seen<RuleSets, u64, Still>,
@@ -76,7 +77,7 @@ impl Model for Law {
 }
 
 impl Law {
-    // The rule sets of a value.
+    /// The rule sets of a value.
     pub fn of<X, M: Ruling<X>>(about: &X) -> Law
         ensures { result ≡ M.sets about.now }
     {
@@ -84,7 +85,7 @@ impl Law {
         Law { seen }
     }
 
-    // A copy.
+    /// A copy.
     pub fn copy(&self) -> Law
         ensures { result ≡ self.now }
     {

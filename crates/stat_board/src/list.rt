@@ -2,7 +2,7 @@
 use logbook::{Gain, Plain, Play, Rule, Word};
 use options_machine::Entry;
 
-// The rule of the book: its word is the length of the list.
+/// The rule of the book: its word is the length of the list.
 pub(crate) struct Growing;
 
 impl Rule<Entry, u64> for Growing {
@@ -23,10 +23,10 @@ impl Rule<Entry, u64> for Growing {
     ghost moves = { λ _ _ _ _. Unit {0} };
 }
 
-// The word of a board.
+/// The word of a board.
 pub(crate) type Head = Word<Entry, u64, Growing>;
 
-// The writer trades nothing.
+/// The writer trades nothing.
 pub(crate) struct Nothing;
 
 impl Gain<Entry, u64> for Nothing {
@@ -35,7 +35,7 @@ impl Gain<Entry, u64> for Nothing {
     ghost after = { λ _ _ _. ftrue };
 }
 
-// The step that adds an entry.
+/// The step that adds an entry.
 pub(crate) struct Adding;
 
 impl Play<Entry, u64> for Adding {
@@ -44,7 +44,7 @@ impl Play<Entry, u64> for Adding {
     ghost then = { Adds };
 }
 
-// What the step asks for: that this entry is added.
+/// What the step asks for: that this entry is added.
 pub(crate) struct Asking;
 
 impl Plain<Entry, Entry, u64> for Asking {

@@ -16,7 +16,8 @@ use std::marker::Model;
 
 /// A Glance of a board, which can be copied and handed on.
 ///
-/// Contracts see it as a `Front`: of which `board`, under which rule `sets`, and the `list` of entries that the Glance stands for. Of two lists of one board the shorter begins the longer.
+/// Contracts see it as a `Front`: of which `board`, under which rule `sets`, and the `list` of entries that the Glance
+/// stands for. Of two lists of one board the shorter begins the longer.
 #[derive(Drop)]
 pub struct BoardNote {
     glance: Glance,
@@ -95,7 +96,7 @@ impl BoardNote {
         }
     }
 
-    // The first note of a new board, with the board's word.
+    /// The first note of a new board, with the board's word.
     pub(crate) fn open<X, M: Ruling<X>>(about: &X, glance: Glance) -> (Head, BoardNote)
         requires { glance ≡ glance_of (M.sets about.now) [] }
         ensures head { result.0 ≡ head_of result.1.board }
@@ -111,7 +112,8 @@ impl BoardNote {
         (head, note)
     }
 
-    // The note after one entry more, with these numbers. There is none where the fronts end, or where the board's word says that an entry was added since.
+    /// The note after one entry more, with these numbers. There is none where the fronts end, or where the board's word
+    /// says that an entry was added since.
     pub(crate) fn next(&self, head: &Head, entry: &Entry, glance: Glance) -> Option<BoardNote>
         requires head { head.now ≡ head_of self.now.board }
         requires numbers { HasNumbers self.now.sets (self.now.list ++ entry.now ∷ []) glance }

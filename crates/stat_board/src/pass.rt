@@ -10,7 +10,8 @@ use crate::rule::{NoteReader, Sees};
 use counter::Glance;
 use std::marker::Model;
 
-/// What a party knows of a board, and the reader by which it sees more. A pass whose reader was refused its place knows what it was told.
+/// What a party knows of a board, and the reader by which it sees more. A pass whose reader was refused its place knows
+/// what it was told.
 ///
 /// Contracts see it as the `Front` that it knows: the one with the longest list of those that it read or was told of.
 #[derive(Drop)]
@@ -33,7 +34,7 @@ impl Model for BoardPass {
 }
 
 impl BoardPass {
-    // A pass that knows a front of the board that its reader was told of.
+    /// A pass that knows a front of the board that its reader was told of.
     pub(crate) fn of(known: BoardNote, reader: Option<NoteReader>) -> BoardPass
         requires { IfSome reader (λ r. IsTold known (view r.place)) }
         ensures { result ≡ known }
@@ -70,7 +71,7 @@ impl BoardPass {
     }
 }
 
-// Reads, where there is a reader.
+/// Reads, where there is a reader.
 fn look(known: &mut BoardNote, reader: Option<NoteReader>) -> Option<NoteReader>
     requires { IfSome reader (λ r. IsTold known.old (view r.place)) }
     ensures later { IsLater known.old known.new }
@@ -82,7 +83,7 @@ fn look(known: &mut BoardNote, reader: Option<NoteReader>) -> Option<NoteReader>
     }
 }
 
-// Reads what is published, which becomes known where it stands for more entries.
+/// Reads what is published, which becomes known where it stands for more entries.
 fn read(known: &mut BoardNote, reader: NoteReader) -> NoteReader
     requires { IsTold known.old (view reader.place) }
     ensures later { IsLater known.old known.new }

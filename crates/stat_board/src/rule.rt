@@ -5,10 +5,11 @@ use crossbeam_utils::rule::{Outcome, Protocol};
 use left_right::reader::Reader;
 use left_right::writer::Writer;
 
-// What a seat knows: a front that the board has reached, or nothing. Only proofs speak of it, and no note is kept there.
+/// What a seat knows: a front that the board has reached, or nothing. Only proofs speak of it, and no note is kept
+/// there.
 pub(crate) type Known = Option<BoardNote>;
 
-// What is published is later than every front that a seat knows.
+/// What is published is later than every front that a seat knows.
 pub(crate) struct Published;
 
 impl Protocol<BoardNote, Known> for Published {
@@ -20,7 +21,7 @@ impl Protocol<BoardNote, Known> for Published {
     ghost first = { None };
 }
 
-// A step after which the seat knows what is published then.
+/// A step after which the seat knows what is published then.
 pub(crate) struct Sees;
 
 impl Outcome<BoardNote, Known> for Sees {
@@ -29,7 +30,7 @@ impl Outcome<BoardNote, Known> for Sees {
     ghost then = { Knows };
 }
 
-// One seat tells another what it knows.
+/// One seat tells another what it knows.
 pub(crate) struct Telling;
 
 impl Split<Known> for Telling {
@@ -46,8 +47,8 @@ impl Join<Known> for Telling {
     ghost spent = { None };
 }
 
-// A party's side of what is published.
+/// A party's side of what is published.
 pub(crate) type NoteReader = Reader<BoardNote, Known, Published>;
 
-// The side that publishes.
+/// The side that publishes.
 pub(crate) type NoteWriter = Writer<BoardNote, BoardNote, Known, Published>;

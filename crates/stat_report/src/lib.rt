@@ -12,10 +12,11 @@ use lines::{put_holders, put_lingerers, put_pool, put_queue};
 use seat_book::Book;
 use std::alloc::Global;
 
-/// The text that tells of the pool of this number, which the licence says so, by its book as it stands: a line of the pool with
-/// its numbers, in licences; a line for each seat that is held, in order of party; one for each that lingers, in the order in
-/// which they came; and one for each party that waits, in the order of the queue, with its position from 1. Moments are in seconds
-/// since 1970-01-01 UTC. The one error is want of memory. The text is this project's own.
+/// The text that tells of the pool of this number, which the licence says so, by its book as it stands: a line of the
+/// pool with its numbers, in licences; a line for each seat that is held, in order of party; one for each that lingers,
+/// in the order in which they came; and one for each party that waits, in the order of the queue, with its position
+/// from 1. Moments are in seconds since 1970-01-01 UTC. The one error is want of memory. The text is this project's
+/// own.
 pub fn report(alloc: Global, pool: u32, of: &Pool, book: &Book) -> Result<Vec<u8>, NoMemory>
     ensures { IfOk result (λ text. text.items ≡ report_text pool of.now book.now.sets book.now.state) }
 {

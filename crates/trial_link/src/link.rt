@@ -10,11 +10,12 @@ use std::alloc::{AllocError, Global};
 
 /// A link in memory that plays one client of a trial.
 ///
-/// It gives `HELLO u h d p`, each letter with the client's number behind it, and then, in each of its rounds, CHECKOUT of the
-/// feature `trial` until a reply begins with GRANTED, and CHECKIN; after the rounds QUIT, and then its end. A reply to a
-/// CHECKOUT that begins neither with GRANTED nor with NOSEAT is its end too, and so is a read before a reply has come. It never
-/// fails and is never Quiet. It keeps no list of its talk: it stands for every talk that a client of this number with these
-/// rounds can have had, as far as it has come, in which it was granted as often as it counted. The trial is this project's own.
+/// It gives `HELLO u h d p`, each letter with the client's number behind it, and then, in each of its rounds, CHECKOUT
+/// of the feature `trial` until a reply begins with GRANTED, and CHECKIN; after the rounds QUIT, and then its end. A
+/// reply to a CHECKOUT that begins neither with GRANTED nor with NOSEAT is its end too, and so is a read before a reply
+/// has come. It never fails and is never Quiet. It keeps no list of its talk: it stands for every talk that a client of
+/// this number with these rounds can have had, as far as it has come, in which it was granted as often as it counted.
+/// The trial is this project's own.
 #[derive(Drop)]
 pub struct TrialLink {
     /// The number of its client.
@@ -37,8 +38,8 @@ pub struct TrialLink {
 }
 
 impl TrialLink {
-    /// The link of the client of this number, from 0, which plays so many rounds and has told nothing yet. It fails where
-    /// memory ran out.
+    /// The link of the client of this number, from 0, which plays so many rounds and has told nothing yet. It fails
+    /// where memory ran out.
     pub fn make(alloc: Global, number: u32, rounds: u32) -> Result<TrialLink, AllocError>
         requires { 0 < rounds }
         ensures client { IfOk result (λ l. (l.number ≡ number) × (l.rounds ≡ rounds)) }

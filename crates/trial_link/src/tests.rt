@@ -2,7 +2,7 @@ use crate::TrialLink;
 use session_outside::{Got, Link};
 use std::test::Fail;
 
-// Each row is a line of the client and the reply to it.
+/// Each row is a line of the client and the reply to it.
 #[test]
 fn a_client_plays_its_rounds(rt: HostRuntime) -> Result<(), Fail> {
     let rows: [(&[u8], &[u8]); 8] = [

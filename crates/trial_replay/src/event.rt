@@ -61,7 +61,8 @@ pub(crate) fn all_clients(alloc: Global) -> Result<Vec<Client>, NoMemory>
     Ok(clients)
 }
 
-/// The number of an event, mixed: the highest four bits give its party, and the two lowest of the next four what it asks.
+/// The number of an event, mixed: the highest four bits give its party, and the two lowest of the next four what it
+/// asks.
 fn mixed(event: u32) -> u32
     ensures { result ≡ mixed event }
 {

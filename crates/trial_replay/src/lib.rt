@@ -1,4 +1,5 @@
-//! A trial of the book: events that follow from their numbers are replayed on the book of one pool, and the replies are counted.
+//! A trial of the book: events that follow from their numbers are replayed on the book of one pool, and the replies are
+//! counted.
 //!
 //! The trial is this project's own.
 #![tactic(auto)]

@@ -40,9 +40,9 @@ fn tell_run(events: u32)
     let _ = events;
 }
 
-/// Replays the first so many events of the trial, 1,000,000 at most, and gives how often each reply came: all ten together
-/// are the events. They are a run of the options machine, by the rules of the trial's one pool, before which nobody has a seat. The
-/// one error is want of memory, which comes before the first event.
+/// Replays the first so many events of the trial, 1,000,000 at most, and gives how often each reply came: all ten
+/// together are the events. They are a run of the options machine, by the rules of the trial's one pool, before which
+/// nobody has a seat. The one error is want of memory, which comes before the first event.
 pub fn replay_events(alloc: Global, events: u32) -> Result<Counts, NoMemory>
     requires { events ≤ 1000000 }
     ensures counts { IfOk result (λ counts. counts ≡ counts_of (replies_of events)) }

@@ -1,4 +1,5 @@
-//! What the events are replayed under: a licence of one pool, and an options file with a line of each kind that decides.
+//! What the events are replayed under: a licence of one pool, and an options file with a line of each kind that
+//! decides.
 ghost use Rattle.std.specs.Prelude.{◌≡◌, ◌∷◌, [], IfOk};
 ghost use Rattle.options_machine.specs.State.{opening};
 ghost use Rattle.trial_replay.specs.Terms.{bench_options, bench_pool, bench_sets};
@@ -44,7 +45,8 @@ fn trial_options(alloc: Global) -> Result<Options, NoMemory>
     }
 }
 
-/// The book of the licence's pool before the first event, by the rules of the options file. The one error is want of memory.
+/// The book of the licence's pool before the first event, by the rules of the options file. The one error is want of
+/// memory.
 pub(crate) fn trial_book(alloc: Global) -> Result<Book, NoMemory>
     ensures { IfOk result (λ book. book ≡ record { sets = bench_sets; parties = 16; state = opening; grants = 0 }) }
 {

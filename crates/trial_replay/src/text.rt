@@ -38,8 +38,8 @@ fn put_counts(text: &mut Vec<u8>, counts: &Counts) -> Result<(), NoMemory>
     put_count(text, b"HELD ", counts.held)
 }
 
-/// The text that tells of the first so many events, 1,000,000 at most: how many there are, and how often each reply came, each on
-/// a line. The one error is want of memory.
+/// The text that tells of the first so many events, 1,000,000 at most: how many there are, and how often each reply
+/// came, each on a line. The one error is want of memory.
 pub fn trial_text(alloc: Global, events: u32) -> Result<Vec<u8>, NoMemory>
     requires { events ≤ 1000000 }
     ensures text { IfOk result (λ text. text.items ≡ trial_text events) }

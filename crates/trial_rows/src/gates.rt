@@ -24,7 +24,8 @@ impl Gate for CountGate {
     }
 }
 
-/// What two gates know of each other: whether the session of the second was answered, and whether the first gave up waiting.
+/// What two gates know of each other: whether the session of the second was answered, and whether the first gave up
+/// waiting.
 #[derive(Drop)]
 pub struct Meeting {
     answered: AtomicU64,
@@ -50,8 +51,8 @@ impl Meeting {
 /// How often a gate looks whether the other session was answered.
 const TURNS: u32 = 1_000_000;
 
-/// One of two gates: the first holds its session where an entry was made, until the second's was answered to one, or a million
-/// looks were in vain.
+/// One of two gates: the first holds its session where an entry was made, until the second's was answered to one, or a
+/// million looks were in vain.
 #[derive(Drop)]
 pub struct HoldGate {
     is_first: bool,

@@ -66,7 +66,7 @@ fn eight_clients_share_two_seats_behind_a_gate(rt: HostRuntime) -> Result<(), Fa
     Ok(())
 }
 
-// Each client has 2 calls for HELLO, 6 for each of 50 rounds, and 2 for QUIT.
+/// Each client has 2 calls for HELLO, 6 for each of 50 rounds, and 2 for QUIT.
 #[test]
 fn trial_runs(rt: HostRuntime) -> Result<(), Fail> {
     let calls = Arc::new(rt.alloc(), AtomicU64::new(0))?;

@@ -39,7 +39,7 @@ fn take_counters(players: Vec<Player>, passes: &mut Vec<OfficePass>)
     }
 }
 
-// There is one desk for each pool.
+/// There is one desk for each pool.
 fn pair(office: &OfficeView<Desk>)
     ensures { length office.now.desks ≡ length office.now.pools }
 {
@@ -104,12 +104,12 @@ fn hold_all<R: Threads + Wait + Sync, T: Site>(
     close(rt, office, players, passes, logs)
 }
 
-/// Makes a post of the site for each client, lets all clients play at once, gives the posts back, and closes the office. It takes
-/// no memory but threads, and what a desk's step takes.
+/// Makes a post of the site for each client, lets all clients play at once, gives the posts back, and closes the
+/// office. It takes no memory but threads, and what a desk's step takes.
 ///
-/// `players` have the counters that were dealt at the office's making and links that have told nothing; `workers` and `passes`
-/// are empty, with room for as many. It fails only where a call of the site did, and then no session was held. Every post is
-/// given back, also where a later one fails, and the office is closed.
+/// `players` have the counters that were dealt at the office's making and links that have told nothing; `workers` and
+/// `passes` are empty, with room for as many. It fails only where a call of the site did, and then no session was held.
+/// Every post is given back, also where a later one fails, and the office is closed.
 pub(crate) fn hold<R: Threads + Wait + Sync, T: Site>(
     rt: &R,
     office: Office,

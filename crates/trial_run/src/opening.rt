@@ -56,13 +56,14 @@ fn seat(passes: &mut Vec<OfficePass>, mut links: Vec<TrialLink>, players: &mut V
     players.reverse();
 }
 
-/// Holds a trial: so many clients, 2 to 256, each of which takes one of so many seats, 1 to 65,535, and gives it back, for so
-/// many rounds, 1 to 10,000. Each client has one session over a link in memory, all of them at once, each in a thread of its own
-/// where one can be made, at a post of the site of its own, of which the clock, the gate and the bell are used. It tells how many
-/// replies brought a seat, and how often the cards of the seats were used, by the close of the office.
+/// Holds a trial: so many clients, 2 to 256, each of which takes one of so many seats, 1 to 65,535, and gives it back,
+/// for so many rounds, 1 to 10,000. Each client has one session over a link in memory, all of them at once, each in a
+/// thread of its own where one can be made, at a post of the site of its own, of which the clock, the gate and the bell
+/// are used. It tells how many replies brought a seat, and how often the cards of the seats were used, by the close of
+/// the office.
 ///
-/// `NoMemory` comes before any post is made, `SiteFault` only where the site had no post for a client, and before any session.
-/// Every post is given back, however it ends. The trial is this project's own.
+/// `NoMemory` comes before any post is made, `SiteFault` only where the site had no post for a client, and before any
+/// session. Every post is given back, however it ends. The trial is this project's own.
 pub fn try_out<R: Threads + Wait + Sync, T: Site>(
     rt: &R,
     alloc: Global,

@@ -13,7 +13,7 @@ use session_outside::{Bell, Clock, Gate};
 use std::sync::Wait;
 use std::thread::{Threads, for_each_mut};
 
-// Serves the one session of a client, with the clock, the gate and the bell of its post.
+/// Serves the one session of a client, with the clock, the gate and the bell of its post.
 fn play<R: Wait, D, K: Clock, B: Bell, G: Gate>(
     rt: &R,
     office: &OfficeView<Desk>,
@@ -37,7 +37,7 @@ fn play<R: Wait, D, K: Clock, B: Bell, G: Gate>(
     );
 }
 
-// Lets all clients play at once, each in a thread of its own where one can be made, until all have ended.
+/// Lets all clients play at once, each in a thread of its own where one can be made, until all have ended.
 fn play_slice<R: Threads + Wait + Sync, D: Send, K: Clock + Send, B: Bell + Send, G: Gate + Send>(
     rt: &R,
     office: &OfficeView<Desk>,
@@ -60,8 +60,8 @@ fn play_slice<R: Threads + Wait + Sync, D: Send, K: Clock + Send, B: Bell + Send
 
 /// Lets all clients play at once, each in a thread of its own where one can be made, until all have ended.
 ///
-/// Each has the counters of one party, one for each desk of the office, none of which is holding or queued; so they are at
-/// the end. Each has one session, over its link, and no door is used.
+/// Each has the counters of one party, one for each desk of the office, none of which is holding or queued; so they are
+/// at the end. Each has one session, over its link, and no door is used.
 pub(crate) fn play_all<
     R: Threads + Wait + Sync,
     D: Send,

@@ -17,9 +17,9 @@ fn licence_text(alloc: Global, seats: u32) -> Result<String, AllocError>
     format!(in alloc; "FEATURE trial v 1.0 permanent {seats}")
 }
 
-/// The licence of a trial with so many seats, 1 to 65,535: the file `FEATURE trial v 1.0 permanent n`, read as any other. It has
-/// one pool, of the feature `trial`, the vendor `v`, the version 1.0 and these seats, which never expires. It fails where memory
-/// ran out. The trial is this project's own.
+/// The licence of a trial with so many seats, 1 to 65,535: the file `FEATURE trial v 1.0 permanent n`, read as any
+/// other. It has one pool, of the feature `trial`, the vendor `v`, the version 1.0 and these seats, which never
+/// expires. It fails where memory ran out. The trial is this project's own.
 pub fn trial_licence(alloc: Global, seats: u32) -> Result<Licence, NoMemory>
     requires { (1 ≤ seats) × (seats ≤ LICENCE_LIMIT) }
     ensures { IfOk result (λ licence. licence.pools ≡ trial_pool seats ∷ []) }

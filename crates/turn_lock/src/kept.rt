@@ -24,7 +24,8 @@ pub struct Stepped<A> {
 
 /// A value that answers one request after another, and stands for the list of entries that came of it.
 ///
-/// The list is not stored. A step's clauses speak of each list that the value stood for before, so a value needs to keep no more than its answers depend on.
+/// The list is not stored. A step's clauses speak of each list that the value stood for before, so a value needs to
+/// keep no more than its answers depend on.
 pub trait Kept {
     /// What can be asked.
     type Request;
@@ -58,7 +59,8 @@ pub trait Kept {
 
     /// Answers one request, and may wait.
     ///
-    /// `moment` is in whatever unit the value's `used` counts. Whichever run the value stood for before, it now stands for that list with this step's entry last, and that longer list is a run again.
+    /// `moment` is in whatever unit the value's `used` counts. Whichever run the value stood for before, it now stands
+    /// for that list with this step's entry last, and that longer list is a run again.
     fn step<R: Wait>(
         &mut self,
         rt: &R,

@@ -11,7 +11,8 @@ pub struct Addend {
     pub amount: u64,
 }
 
-/// The sum of all amounts so far, modulo 2^64. Each request is answered with the sum before it, and uses the moment that it is handed.
+/// The sum of all amounts so far, modulo 2^64. Each request is answered with the sum before it, and uses the moment
+/// that it is handed.
 #[derive(Debug, Drop)]
 pub struct Sum {
     /// The sum, which is 0 where the sum stands for no request.

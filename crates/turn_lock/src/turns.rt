@@ -22,23 +22,23 @@ use std::sync::Wait;
 use std::time::Duration;
 use std::{hint, mem, thread};
 
-// Who waits looks again at once in the first rounds, lets another thread run in the next, and then sleeps.
+/// Who waits looks again at once in the first rounds, lets another thread run in the next, and then sleeps.
 const SPINS: u32 = 20;
 
 const YIELDS: u32 = 80;
 
-// The first sleep, in microseconds. Each further one is twice as long, up to the longest.
+/// The first sleep, in microseconds. Each further one is twice as long, up to the longest.
 const FIRST_NAP: u64 = 50;
 
 const LONGEST_NAP: u64 = 1_000;
 
-// How often a sleep doubles until it is as long as the longest.
+/// How often a sleep doubles until it is as long as the longest.
 const DOUBLINGS: u32 = 5;
 
-// After so many rounds, about a third of a second, a caller draws its ticket all the same.
+/// After so many rounds, about a third of a second, a caller draws its ticket all the same.
 const PATIENCE: u32 = 400;
 
-// The round of the first sleep. Who has a ticket sleeps no longer than this, since all behind it wait for it.
+/// The round of the first sleep. Who has a ticket sleeps no longer than this, since all behind it wait for it.
 const SHORTEST: u32 = SPINS + YIELDS;
 
 /// What a call through the lock gives.
@@ -54,7 +54,8 @@ pub struct Answered<A> {
 
 /// A value behind a ticket lock, which threads share by reference.
 ///
-/// Contracts see it as a `Lock`: its `id` tells it from other locks and says by `parties` how many passes it has, from 1 to 256, and `law` is the value's law.
+/// Contracts see it as a `Lock`: its `id` tells it from other locks and says by `parties` how many passes it has, from
+/// 1 to 256, and `law` is the value's law.
 #[derive(Drop)]
 pub struct Turns<V: Kept> {
     table: LockTable<V>,
@@ -74,9 +75,11 @@ impl<V: Kept> Model for Turns<V> {
 /// What a party asks with, of one lock round a value of type `V`. One thread at a time has it.
 pub type TurnPass<V: Kept> = PartyPass<V::Law, V::Request, V::Answer>;
 
-/// A [`TurnPass`], in a type that names the value's law, requests and answers alone. So it may be let go also where the value may not.
+/// A [`TurnPass`], in a type that names the value's law, requests and answers alone. So it may be let go also where the
+/// value may not.
 ///
-/// Contracts see it as a `Pass`: `lock` is the `id` of its lock, `number` is its party, `law` is the value's law, `seen` is the history up to its last call and `mine` is its party's part of that.
+/// Contracts see it as a `Pass`: `lock` is the `id` of its lock, `number` is its party, `law` is the value's law,
+/// `seen` is the history up to its last call and `mine` is its party's part of that.
 #[derive(Drop)]
 pub struct PartyPass<L, Q, A> {
     number: u32,
@@ -100,7 +103,8 @@ impl<L, Q, A> Model for PartyPass<L, Q, A> {
 }
 
 impl<L, Q, A> PartyPass<L, Q, A> {
-    /// The number of the party, which is below the number of the lock's passes: pass i of [`Turns::make`] has the number i.
+    /// The number of the party, which is below the number of the lock's passes: pass i of [`Turns::make`] has the
+    /// number i.
     pub fn number(&self) -> u32
         ensures is { result ≡ self.now.number }
         ensures inside { result < self.now.lock.parties }
@@ -153,7 +157,8 @@ impl<V: Kept> Turns<V> {
 
     /// Makes one call of the value, in the caller's turn.
     ///
-    /// It draws a ticket and waits until that is served, which may be forever. `moment` is handed on to the value's step. It takes no memory, but what that step takes.
+    /// It draws a ticket and waits until that is served, which may be forever. `moment` is handed on to the value's
+    /// step. It takes no memory, but what that step takes.
     pub fn ask<R: Wait>(
         &self,
         rt: &R,
@@ -201,7 +206,10 @@ impl<V: Kept> Turns<V> {
 
     /// Takes all passes of the lock in, and gives the value back, with the number of all calls modulo 2^64.
     ///
-    /// It takes no memory and waits for nobody. The value stands for the whole history, which is one for all passes: each has seen a beginning of it and has its party's part. The passes' numbers are 0 to `parties` - 1 in some order, and the history has no entries but theirs: whatever an entry counts for, the passes' own entries together count for what the history does.
+    /// It takes no memory and waits for nobody. The value stands for the whole history, which is one for all passes:
+    /// each has seen a beginning of it and has its party's part. The passes' numbers are 0 to `parties` - 1 in some
+    /// order, and the history has no entries but theirs: whatever an entry counts for, the passes' own entries together
+    /// count for what the history does.
     pub fn close(self, passes: Vec<TurnPass<V>>) -> (V, u64)
         requires count { vec_len passes ≡ self.id.parties }
         requires lock { All (λ p. p.lock ≡ self.id) passes.items }
@@ -218,7 +226,7 @@ impl<V: Kept> Turns<V> {
         (value, calls)
     }
 
-    // Deals the passes, whose room is there.
+    /// Deals the passes, whose room is there.
     fn deal(&self, seat: &mut LockSeat<V>, passes: &mut Vec<TurnPass<V>>)
         requires lock { seat.old.table_id ≡ self.now.id.table }
         requires opens { seat.old.me ≡ (maker self.now.law 0, []) }
@@ -236,7 +244,7 @@ impl<V: Kept> Turns<V> {
         }
     }
 
-    // Draws a ticket, and waits until it is served.
+    /// Draws a ticket, and waits until it is served.
     fn wait_turn<R: Wait>(&self, rt: &R, seat: &mut LockSeat<V>)
         requires lock { seat.old.table_id ≡ self.now.id.table }
         requires idle { (p : Pass V.Law V.Request V.Answer) × IsAtRest p seat.old.me }
@@ -257,8 +265,8 @@ impl<V: Kept> Turns<V> {
         unreachable!()
     }
 
-    // Gives the ticket that it drew. Tickets are served in order, so one drawer whom the system has put aside stops all
-    // behind it: so nobody draws while another is in, but after so many rounds.
+    /// Gives the ticket that it drew. Tickets are served in order, so one drawer whom the system has put aside stops
+    /// all behind it: so nobody draws while another is in, but after so many rounds.
     fn draw<R: Wait>(&self, rt: &R, seat: &mut LockSeat<V>) -> u64
         requires lock { seat.old.table_id ≡ self.now.id.table }
         requires idle { (p : Pass V.Law V.Request V.Answer) × IsAtRest p seat.old.me }
@@ -283,7 +291,7 @@ impl<V: Kept> Turns<V> {
         self.table.shared.fetch_add::<Draw>(seat, TICKET, 1)
     }
 
-    // One round of waiting for the serving word to be another than was seen. Nobody wakes a sleeper.
+    /// One round of waiting for the serving word to be another than was seen. Nobody wakes a sleeper.
     fn pause<R: Wait>(&self, rt: &R, round: u32, seen: u64) {
         if round < SPINS {
             hint::spin_loop();
@@ -296,7 +304,7 @@ impl<V: Kept> Turns<V> {
         }
     }
 
-    // Takes the value out, in the seat's turn.
+    /// Takes the value out, in the seat's turn.
     fn take(&self, seat: &mut LockSeat<V>)
         requires lock { seat.old.table_id ≡ self.now.id.table }
         requires turn { (p : Pass V.Law V.Request V.Answer) × (t : ℕ) × (seat.old.me ≡ (seated_view p (Turn t), [])) }
@@ -307,7 +315,7 @@ impl<V: Kept> Turns<V> {
         self.table.shared.load::<Take<V>>(seat, SERVING);
     }
 
-    // Makes one step of the value that is out with the seat, where it lies.
+    /// Makes one step of the value that is out with the seat, where it lies.
     fn step<R: Wait>(
         &self,
         rt: &R,
@@ -327,7 +335,8 @@ impl<V: Kept> Turns<V> {
         value.step(rt, request, moment)
     }
 
-    // Adds the entry of a step to the history, and gives the number of those before it: one for each ticket that was served.
+    /// Adds the entry of a step to the history, and gives the number of those before it: one for each ticket that was
+    /// served.
     fn count<J: Saying<V::Request, V::Answer>>(
         &self,
         seat: &mut LockSeat<V>,
@@ -345,7 +354,7 @@ impl<V: Kept> Turns<V> {
         self.table.shared.load::<Count<J>>(seat, SERVING)
     }
 
-    // Puts the value back, and serves the next ticket.
+    /// Puts the value back, and serves the next ticket.
     fn give(&self, seat: &mut LockSeat<V>)
         requires lock { seat.old.table_id ≡ self.now.id.table }
         requires counted { (p : Pass V.Law V.Request V.Answer) × (t : ℕ) × (x : V) × (seat.old.me ≡ (seated_view p (Counted t), (0, Some x) ∷ []))
@@ -358,7 +367,7 @@ impl<V: Kept> Turns<V> {
         self.table.shared.fetch_add::<Next>(seat, SERVING, 1);
     }
 
-    // Joins all passes into one.
+    /// Joins all passes into one.
     fn gather(&self, mut passes: Vec<TurnPass<V>>) -> LockSeat<V>
         requires some { 0 < vec_len passes }
         requires lock { All (λ p. p.lock ≡ self.now.id) passes.items }
@@ -379,7 +388,7 @@ impl<V: Kept> Turns<V> {
 }
 
 impl<L, Q, A> PartyPass<L, Q, A> {
-    // A seat again, at a table whose slots hold an S.
+    /// A seat again, at a table whose slots hold an S.
     fn into_seat<S>(self) -> Seat<S, View<L, Q, A>>
         ensures lock { result.table_id ≡ self.lock.table }
         ensures idle { IsAtRest self result.me }
@@ -393,13 +402,13 @@ impl<L, Q, A> PartyPass<L, Q, A> {
     }
 }
 
-// How long the sleep after so many others is.
+/// How long the sleep after so many others is.
 fn nap(naps: u32) -> Duration {
     let micros = FIRST_NAP << naps.min(DOUBLINGS);
     Duration::from_micros(micros.min(LONGEST_NAP))
 }
 
-// What the one slot holds.
+/// What the one slot holds.
 fn sole<V>(mut slots: Vec<Option<V>>) -> V
     requires { (x : V) × (slots.items ≡ Some x ∷ []) }
     ensures { slots.items ≡ Some result ∷ [] }

@@ -12,8 +12,8 @@ const READ_SECONDS: u64 = 1;
 /// How long a write waits for a client that reads nothing, in seconds.
 const WRITE_SECONDS: u64 = 10;
 
-/// A connection to a client. A read that waits about a second for bytes is Quiet. A write that waits ten seconds for its
-/// client to read fails.
+/// A connection to a client. A read that waits about a second for bytes is Quiet. A write that waits ten seconds for
+/// its client to read fails.
 #[derive(Drop)]
 pub struct UnixLink {
     stream: UnixStream,
@@ -32,7 +32,8 @@ pub(crate) fn is_quiet(error: &io::Error) -> bool {
 }
 
 impl UnixLink {
-    /// The link over this stream, of which no call has failed. It fails as the system does where that refuses the times.
+    /// The link over this stream, of which no call has failed. It fails as the system does where that refuses the
+    /// times.
     pub fn over(stream: UnixStream) -> io::Result<UnixLink> {
         stream.set_read_timeout(Some(Duration::from_secs(READ_SECONDS)))?;
         stream.set_write_timeout(Some(Duration::from_secs(WRITE_SECONDS)))?;

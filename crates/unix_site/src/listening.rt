@@ -32,7 +32,8 @@ fn file_at(system: &impl Files, path: &str) -> io::Result<FileNumber> {
     })
 }
 
-/// Whether the file at the path is a socket that nobody serves. One that is served meets a connection that ends at once.
+/// Whether the file at the path is a socket that nobody serves. One that is served meets a connection that ends at
+/// once.
 fn is_stale<R: Files + Net>(system: &R, path: &str) -> bool {
     let Ok(found) = fs::symlink_metadata(system, path) else {
         return false;
@@ -65,8 +66,8 @@ fn timed(listener: UnixListener) -> io::Result<UnixListener> {
 }
 
 impl Listening {
-    /// Listens at the path. It fails where the path can't be bound: another file is there, or a socket that is served, or
-    /// the system refuses it.
+    /// Listens at the path. It fails where the path can't be bound: another file is there, or a socket that is served,
+    /// or the system refuses it.
     pub fn at<R: Files + Net>(system: &R, path: &str) -> io::Result<Listening> {
         let listener = timed(bound(system, path)?)?;
         let file = file_at(system, path)?;

@@ -16,7 +16,8 @@ use std::rt::{Clock, Files};
 use std::sync::Arc;
 use std::sync::atomic::AtomicU64;
 
-/// A site of the real system. It listens at one path, with a Unix stream socket, and the bells of its posts ring together.
+/// A site of the real system. It listens at one path, with a Unix stream socket, and the bells of its posts ring
+/// together.
 #[derive(Drop)]
 pub struct UnixSite<R: Files + Net + Clock + Clone + Send + Drop> {
     system: R,
@@ -52,9 +53,9 @@ impl<R: Files + Net + Clock + Clone + Send + Drop> UnixSite<R> {
         })
     }
 
-    /// Ends the site, and removes the socket file that `listen` made. A site that listens nowhere removes nothing, and no
-    /// file is removed that the site didn't bind, also where one took the socket's place since. Where the file can't be
-    /// removed it stays, and nothing tells so: the next daemon at the path replaces it.
+    /// Ends the site, and removes the socket file that `listen` made. A site that listens nowhere removes nothing, and
+    /// no file is removed that the site didn't bind, also where one took the socket's place since. Where the file can't
+    /// be removed it stays, and nothing tells so: the next daemon at the path replaces it.
     pub fn close(self) {
         if let Some(listening) = &self.listening {
             let _ = listening.remove(&self.system);

@@ -3,7 +3,7 @@ use std::alloc::Global;
 use std::process::Abort;
 use std::test::Fail;
 
-// A call of a clock and the answer that it is to give.
+/// A call of a clock and the answer that it is to give.
 #[derive(Clone, Copy)]
 enum Call {
     Add(u64, u64, Result<(), ClockFault>),
@@ -100,7 +100,7 @@ fn no_room_takes_no_deadline(rt: HostRuntime) -> Result<(), Fail> {
     Ok(())
 }
 
-// The deadlines in no order, as the simplest clock keeps them.
+/// The deadlines in no order, as the simplest clock keeps them.
 #[derive(Drop)]
 struct Plain {
     room: usize,
@@ -161,7 +161,7 @@ impl Plain {
     }
 }
 
-// The next state of Knuth's 64-bit linear congruential generator (MMIX).
+/// The next state of Knuth's 64-bit linear congruential generator (MMIX).
 fn next(state: u64) -> u64 {
     state
         .wrapping_mul(6364136223846793005)

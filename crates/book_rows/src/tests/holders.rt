@@ -4,7 +4,7 @@ use seat_rows::SeatRows;
 use std::process::Abort;
 use std::test::Fail;
 
-// A call of the rows, and the answer that it is to give.
+/// A call of the rows, and the answer that it is to give.
 #[derive(Clone, Copy)]
 enum Call {
     // The party, and the moment at which it was heard.

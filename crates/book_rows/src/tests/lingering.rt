@@ -15,7 +15,7 @@ fn client(user: u8) -> Result<Client, Fail> {
     })
 }
 
-// A seat of the user of this letter.
+/// A seat of the user of this letter.
 fn entry(user: u8, until: u64) -> Result<Lingerer, Fail> {
     Ok(Lingerer {
         client: client(user)?,
@@ -24,7 +24,7 @@ fn entry(user: u8, until: u64) -> Result<Lingerer, Fail> {
     })
 }
 
-// What is done, with users by their letters and entries by the moment until which they wait.
+/// What is done, with users by their letters and entries by the moment until which they wait.
 #[derive(Clone, Copy)]
 enum Call {
     Push(u8, u64),
@@ -54,7 +54,7 @@ fn make_call(rt: &impl Abort, table: &mut LingerTable, call: Call) -> Result<(),
     Ok(())
 }
 
-// There is room for two, and so there are four slots: the fifth that comes finds none left.
+/// There is room for two, and so there are four slots: the fifth that comes finds none left.
 #[test]
 fn more_come_than_there_are_slots(rt: HostRuntime) -> Result<(), Fail> {
     let mut table = LingerTable::make(rt.alloc(), 2)?;

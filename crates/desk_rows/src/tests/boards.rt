@@ -10,7 +10,7 @@ use std::sync::Wait;
 use std::test::Fail;
 use std::thread::{Threads, join_mut};
 
-// The desk has one seat.
+/// The desk has one seat.
 struct OneSeat;
 
 impl Ruling<()> for OneSeat {
@@ -28,7 +28,7 @@ const OPENING: Glance = Glance {
     queued: 0,
 };
 
-// The board of a desk with one seat.
+/// The board of a desk with one seat.
 fn opened<R: Wait>(rt: &R, alloc: Global, n: u32) -> Result<(Board, Vec<BoardPass>), NoMemory>
     requires { (1 ≤ n) × (n ≤ 256) }
     ensures sets { IfOk result (λ r. r.0.front.sets ≡ one_seat) }
@@ -39,7 +39,7 @@ fn opened<R: Wait>(rt: &R, alloc: Global, n: u32) -> Result<(Board, Vec<BoardPas
     Board::make::<R, (), OneSeat>(rt, alloc, &(), OPENING, n)
 }
 
-// Ann at host ann.
+/// Ann at host ann.
 fn ann() -> Result<Client, Fail> {
     let name = Name::read(b"ann")?;
     Ok(Client {
@@ -50,7 +50,7 @@ fn ann() -> Result<Client, Fail> {
     })
 }
 
-// What a party asks at moment 0, and the reply.
+/// What a party asks at moment 0, and the reply.
 fn entry(party: u32, client: &Client, kind: Kind, reply: Reply) -> Entry
     ensures { result ≡ record { request = record { party = party; client = client.now; kind = kind }; moment = 0; reply = reply } }
 {
@@ -65,7 +65,7 @@ fn entry(party: u32, client: &Client, kind: Kind, reply: Reply) -> Entry
     }
 }
 
-// Party 0 takes the seat, and party 1 waits for it. What a pass reads after each.
+/// Party 0 takes the seat, and party 1 waits for it. What a pass reads after each.
 fn seat_and_wait<R: Wait>(
     rt: &R,
     board: &mut Board,
@@ -114,7 +114,7 @@ fn a_pass_reads_what_was_published(rt: HostRuntime) -> Result<(), Fail> {
     Ok(())
 }
 
-// Publishes that party 0 looks for its seat, and has none.
+/// Publishes that party 0 looks for its seat, and has none.
 fn look<R: Wait>(rt: &R, client: &Client, board: &mut Board)
     requires sets { board.old.front.sets ≡ one_seat }
     requires idle { IsIdle board.old.front.list }
@@ -126,7 +126,8 @@ fn look<R: Wait>(rt: &R, client: &Client, board: &mut Board)
     board.publish(rt, &looked, OPENING);
 }
 
-// What the second pass knows after it heard a note of the first, which was read when one more entry was published, and after it heard its own old note.
+/// What the second pass knows after it heard a note of the first, which was read when one more entry was published, and
+/// after it heard its own old note.
 fn heard<R: Wait>(
     rt: &R,
     board: &mut Board,
@@ -163,7 +164,7 @@ fn a_heard_note_is_kept(rt: HostRuntime) -> Result<(), Fail> {
     Ok(())
 }
 
-// Publishes so many entries, and gives how many of them before the board was live no more.
+/// Publishes so many entries, and gives how many of them before the board was live no more.
 fn publish_many<R: Wait>(rt: &R, client: &Client, board: &mut Board, times: u64) -> u64
     requires sets { board.old.front.sets ≡ one_seat }
     requires idle { IsIdle board.old.front.list }
@@ -178,7 +179,7 @@ fn publish_many<R: Wait>(rt: &R, client: &Client, board: &mut Board, times: u64)
     published
 }
 
-// Reads so often, and tells whether a front fell, and the last.
+/// Reads so often, and tells whether a front fell, and the last.
 fn watch(pass: &mut BoardPass, times: u64) -> (bool, u64) {
     let mut last = 0;
     let mut fell = false;
@@ -192,7 +193,8 @@ fn watch(pass: &mut BoardPass, times: u64) -> (bool, u64) {
 
 const MANY: u64 = 10_000;
 
-// One thread publishes so many entries, and another reads as often. How many were published, what the reader tells, and the front at the end.
+/// One thread publishes so many entries, and another reads as often. How many were published, what the reader tells,
+/// and the front at the end.
 fn publish_and_watch<R: Threads + Wait + Sync>(
     rt: &R,
     mut board: Board,
@@ -228,7 +230,7 @@ fn fronts_never_fall_while_another_thread_publishes(rt: HostRuntime) -> Result<(
     Ok(())
 }
 
-// Where memory is refused on the way, the board ends there, and its last Glance stays.
+/// Where memory is refused on the way, the board ends there, and its last Glance stays.
 #[test]
 fn a_refused_append_ends_the_publishing(rt: HostRuntime) -> Result<(), Fail> {
     let client = ann()?;

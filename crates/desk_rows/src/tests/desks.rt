@@ -21,7 +21,7 @@ use std::thread::{Threads, for_each_mut, yield_now};
 
 const ROUNDS: u32 = 50;
 
-// A client of this user, on host h1.
+/// A client of this user, on host h1.
 fn client(user: &[u8]) -> Result<Client, Fail> {
     Ok(Client {
         user: Name::read(user)?,
@@ -31,7 +31,7 @@ fn client(user: &[u8]) -> Result<Client, Fail> {
     })
 }
 
-// The rules of so many licences, by an options file.
+/// The rules of so many licences, by an options file.
 fn rules_of(rt: &(impl Abort + AllocGlobal), file: &[u8], count: u32) -> Result<DeskRules, Fail>
     ensures sound { IfOk result IsSound }
     ensures count { IfOk result (λ rules. rules.count ≡ count) }
@@ -53,7 +53,7 @@ fn rules_of(rt: &(impl Abort + AllocGlobal), file: &[u8], count: u32) -> Result<
     Ok(rules)
 }
 
-// A desk of so many licences and parties, by an options file.
+/// A desk of so many licences and parties, by an options file.
 fn desk_of(
     rt: &(impl Abort + Wait + AllocGlobal),
     file: &[u8],
@@ -71,7 +71,7 @@ fn desk_of(
     Ok(Desk::make(rt, rt.alloc(), rules, net)?)
 }
 
-// A desk of so many licences and parties with no options, behind a gate.
+/// A desk of so many licences and parties with no options, behind a gate.
 fn gated_desk_of(
     rt: &(impl Abort + Wait + AllocGlobal),
     count: u32,
@@ -85,7 +85,7 @@ fn gated_desk_of(
     Ok(Desk::make_gated(rt, rt.alloc(), sets, parties)?)
 }
 
-// One call of a party, at a moment.
+/// One call of a party, at a moment.
 fn asks<R: Wait>(
     rt: &R,
     desk: &Desk,
@@ -101,7 +101,7 @@ fn asks<R: Wait>(
     pass.ask(rt, desk, kind, client, moment)
 }
 
-// Checks out until a seat is granted.
+/// Checks out until a seat is granted.
 fn check_out<R: Wait>(rt: &R, desk: &Desk, pass: &mut DeskPass, client: &Client)
     requires { IsOf pass.old desk.now }
     ensures { IsOf pass.new desk.now }
@@ -115,7 +115,7 @@ fn check_out<R: Wait>(rt: &R, desk: &Desk, pass: &mut DeskPass, client: &Client)
     unreachable!()
 }
 
-// Quits.
+/// Quits.
 fn quit<R: Wait>(rt: &R, desk: &Desk, pass: &mut DeskPass, client: &Client, moment: u64)
     requires { IsOf pass.old desk.now }
     ensures { IsOf pass.new desk.now × Rests pass.new }
@@ -123,7 +123,7 @@ fn quit<R: Wait>(rt: &R, desk: &Desk, pass: &mut DeskPass, client: &Client, mome
     pass.ask(rt, desk, Kind::Quit, client, moment);
 }
 
-// Checks out and in, so often, and quits.
+/// Checks out and in, so often, and quits.
 fn come_and_go<R: Wait>(rt: &R, desk: &Desk, pass: &mut DeskPass, client: &Client)
     requires { IsOf pass.old desk.now }
     ensures { IsOf pass.new desk.now × Rests pass.new }
@@ -135,7 +135,7 @@ fn come_and_go<R: Wait>(rt: &R, desk: &Desk, pass: &mut DeskPass, client: &Clien
     quit(rt, desk, pass, client, 0);
 }
 
-// Each party comes and goes in a thread of its own.
+/// Each party comes and goes in a thread of its own.
 fn come_and_go_all<R: Threads + Wait + Sync>(
     rt: &R,
     desk: &Desk,
@@ -154,7 +154,7 @@ fn come_and_go_all<R: Threads + Wait + Sync>(
     for_each_mut(rt, passes, 4, &coming);
 }
 
-// Each party comes and goes, and then the desk is closed.
+/// Each party comes and goes, and then the desk is closed.
 fn tally_of<R: Threads + Wait + Sync>(
     rt: &R,
     desk: Desk,
@@ -188,7 +188,7 @@ fn eight_parties_take_turns_at_two_seats_behind_a_gate(rt: HostRuntime) -> Resul
     Ok(())
 }
 
-// Takes so many steps towards a seat, none of which is the last.
+/// Takes so many steps towards a seat, none of which is the last.
 fn waits(rt: &impl Abort, desk: &Desk, mut noted: Noted, steps: u32) -> Noted
     requires { IsOf noted.sitter desk.now }
     ensures { IsOf result.sitter desk.now }
@@ -202,7 +202,7 @@ fn waits(rt: &impl Abort, desk: &Desk, mut noted: Noted, steps: u32) -> Noted
     noted
 }
 
-// The party tells the other what it knows of the board, and the other reads it.
+/// The party tells the other what it knows of the board, and the other reads it.
 fn told_glance(desk: &Desk, one: &DeskPass, two: &mut DeskPass) -> Glance
     requires one { IsOf one.now desk.now }
     requires two { IsOf two.old desk.now }
@@ -212,7 +212,7 @@ fn told_glance(desk: &Desk, one: &DeskPass, two: &mut DeskPass) -> Glance
     two.glance(desk)
 }
 
-// The last pass.
+/// The last pass.
 fn last(rt: &impl Abort, desk: &Desk, passes: &mut Vec<DeskPass>) -> DeskPass
     requires { All (λ p. IsOf p desk.now) passes.old.items }
     ensures { IsOf result desk.now × All (λ p. IsOf p desk.now) passes.new.items }
@@ -220,7 +220,7 @@ fn last(rt: &impl Abort, desk: &Desk, passes: &mut Vec<DeskPass>) -> DeskPass
     passes.pop().expect(rt, "a pass")
 }
 
-// Both passes, in a list that has room for them.
+/// Both passes, in a list that has room for them.
 fn both(_desk: &Desk, mut room: Vec<DeskPass>, one: DeskPass, two: DeskPass) -> Vec<DeskPass>
     requires room { (room.items ≡ []) × (2 ≤ vec_capacity room) }
     requires one { IsOf one _desk.now × Rests one }
@@ -272,7 +272,7 @@ fn a_reclaimed_seat_is_left_before_another_enters(rt: HostRuntime) -> Result<(),
     Ok(())
 }
 
-// The party of this pass has no seat.
+/// The party of this pass has no seat.
 fn rested(rt: &impl Abort, _desk: &Desk, pass: DeskPass) -> DeskPass
     requires { IsOf pass _desk.now }
     ensures { IsOf result _desk.now × Rests result }
@@ -281,7 +281,7 @@ fn rested(rt: &impl Abort, _desk: &Desk, pass: DeskPass) -> DeskPass
     pass
 }
 
-// Looks so often, one second after another.
+/// Looks so often, one second after another.
 fn look_often<R: Wait>(rt: &R, desk: &Desk, pass: &mut DeskPass, client: &Client, times: u64)
     requires { IsOf pass.old desk.now }
     ensures { IsOf pass.new desk.now }

@@ -9,7 +9,7 @@ use std::thread::{Threads, join, map_vec, yield_now};
 use turn_lock::sum::{Addend, Sum};
 use turn_lock::{Answered, Kept, Stepped, TurnPass, Turns};
 
-// Asks a sum so often, with 1 each.
+/// Asks a sum so often, with 1 each.
 fn ask_often<R: Wait>(
     rt: &R,
     lock: &Turns<Sum>,
@@ -46,7 +46,7 @@ fn answers_are_the_sums_before(rt: HostRuntime) -> Result<(), Fail> {
     Ok(())
 }
 
-// Two threads ask so often each, and the lock is closed.
+/// Two threads ask so often each, and the lock is closed.
 fn both_ask<R: Threads + Wait + Sync>(
     rt: &R,
     lock: Turns<Sum>,
@@ -83,7 +83,7 @@ fn two_threads_lose_no_call(rt: HostRuntime) -> Result<(), Fail> {
     Ok(())
 }
 
-// The places of so many calls with 1 each, in their order. A place that is not its call's answer is given as u64::MAX.
+/// The places of so many calls with 1 each, in their order. A place that is not its call's answer is given as u64::MAX.
 fn places_of<R: Wait>(rt: &R, lock: &Turns<Sum>, mut pass: TurnPass<Sum>) -> [u64; 500]
     requires { pass.lock ≡ lock.now.id }
 {
@@ -124,7 +124,7 @@ fn eight_threads_have_places_of_their_own(rt: HostRuntime) -> Result<(), Fail> {
     Ok(())
 }
 
-// A value that may not be dropped. Its party's number is the request.
+/// A value that may not be dropped. Its party's number is the request.
 struct Sealed {
     steps: u64,
 }
@@ -179,7 +179,7 @@ fn a_value_comes_back_that_may_not_be_dropped(rt: HostRuntime) {
     }
 }
 
-// Asks once.
+/// Asks once.
 fn ask_once<R: Wait>(rt: &R, lock: &Turns<Sealed>, mut pass: TurnPass<Sealed>) -> TurnPass<Sealed>
     requires { pass.lock ≡ lock.now.id }
     ensures { result.lock ≡ pass.lock }
@@ -189,7 +189,7 @@ fn ask_once<R: Wait>(rt: &R, lock: &Turns<Sealed>, mut pass: TurnPass<Sealed>) -
     pass
 }
 
-// A pass, and a list of passes, may be let go, also on an early way out.
+/// A pass, and a list of passes, may be let go, also on an early way out.
 fn let_go(
     pass: TurnPass<Sealed>,
     _others: Vec<TurnPass<Sealed>>,
@@ -199,7 +199,7 @@ fn let_go(
     Some(number ^ pass.number())
 }
 
-// Each pass goes to a thread of its own, and comes back.
+/// Each pass goes to a thread of its own, and comes back.
 fn all_ask<R: Threads + Wait + Sync>(
     rt: &R,
     lock: &Turns<Sealed>,
@@ -216,7 +216,7 @@ fn all_ask<R: Threads + Wait + Sync>(
     map_vec(rt, passes, &asking)
 }
 
-// The same, where every pass has a thread, and then all are taken in.
+/// The same, where every pass has a thread, and then all are taken in.
 fn two_ask<R: Threads + Wait + Sync>(
     rt: &R,
     lock: Turns<Sealed>,
@@ -252,12 +252,13 @@ fn threads_own_passes_of_a_value_that_may_not_be_dropped(rt: HostRuntime) {
     }
 }
 
-// So often a party looks for the other, and so many turns it stands still once that asks.
+/// So often a party looks for the other, and so many turns it stands still once that asks.
 const PATIENCE: u32 = 1_000_000;
 
 const STILL: u32 = 20_000;
 
-// What two parties know of each other: whether party 0 stands in its turn, whether party 1 asks, and whether that was answered.
+/// What two parties know of each other: whether party 0 stands in its turn, whether party 1 asks, and whether that was
+/// answered.
 #[derive(Drop)]
 struct Words {
     stands: AtomicU64,
@@ -265,7 +266,7 @@ struct Words {
     answered: AtomicU64,
 }
 
-// Waits until the word is set, and says whether it was.
+/// Waits until the word is set, and says whether it was.
 fn is_set(word: &AtomicU64) -> bool {
     for _turn in 0..PATIENCE {
         if word.load(Ordering::SeqCst) != 0 {
@@ -276,14 +277,14 @@ fn is_set(word: &AtomicU64) -> bool {
     false
 }
 
-// What a step answers: how many there were before, and of party 0's whether party 1 asked meanwhile and had no answer.
+/// What a step answers: how many there were before, and of party 0's whether party 1 asked meanwhile and had no answer.
 #[derive(Clone, Copy, Debug, PartialEq, Eq)]
 struct Found {
     before: u64,
     held_back: bool,
 }
 
-// A value in whose step party 0 stands still.
+/// A value in whose step party 0 stands still.
 #[derive(Drop)]
 struct Halting {
     words: Arc<Words, Global>,
@@ -291,7 +292,8 @@ struct Halting {
 }
 
 impl Halting {
-    // Stands still until party 1 asks, and then as long as is long for a call. Says whether party 1 asked and had no answer.
+    /// Stands still until party 1 asks, and then as long as is long for a call. Says whether party 1 asked and had no
+    /// answer.
     fn stands_still(&self) -> bool {
         self.words.stands.store(1, Ordering::SeqCst);
         let asked = is_set(&self.words.asks);
@@ -334,7 +336,7 @@ impl Kept for Halting {
     }
 }
 
-// Asks once.
+/// Asks once.
 fn ask_halting<R: Wait>(
     rt: &R,
     lock: &Turns<Halting>,
@@ -348,7 +350,7 @@ fn ask_halting<R: Wait>(
     (pass, answer, place)
 }
 
-// The same, once party 0 stands in its turn.
+/// The same, once party 0 stands in its turn.
 fn ask_behind<R: Wait>(
     rt: &R,
     lock: &Turns<Halting>,
@@ -365,7 +367,8 @@ fn ask_behind<R: Wait>(
     told
 }
 
-// Party 0 asks and stands still in its turn, and party 1 asks meanwhile. It gives what each found, with its place, and the number of steps.
+/// Party 0 asks and stands still in its turn, and party 1 asks meanwhile. It gives what each found, with its place, and
+/// the number of steps.
 fn halt_and_ask<R: Threads + Wait + Sync>(
     rt: &R,
     lock: Turns<Halting>,

@@ -8,7 +8,7 @@ use kex_net::chain;
 use std::alloc::Global;
 use std::test::Fail;
 
-// so many steps of one party, and what stands afterwards at the one stage
+/// So many steps of one party, and what stands afterwards at the one stage.
 #[derive(Clone, Copy)]
 struct Row {
     party: u32,
@@ -37,7 +37,7 @@ fn walk(world: &mut World, party: u32, steps: u32)
     }
 }
 
-// the first of these rows that chain(3, 2) doesn't follow
+/// The first of these rows that chain(3, 2) doesn't follow.
 fn first_wrong(alloc: Global, rows: &[Row]) -> Result<Option<usize>, NoMemory> {
     let net = chain(alloc, 3, 2)?;
     let mut world = World::make(alloc, net)?;
@@ -52,8 +52,7 @@ fn first_wrong(alloc: Global, rows: &[Row]) -> Result<Option<usize>, NoMemory> {
     Ok(None)
 }
 
-// chain(3, 2) has one stage of capacity 2. Parties 0 and 1 hold 0 and 1, and party 2 finds no
-// room.
+/// Chain(3, 2) has one stage of capacity 2. Parties 0 and 1 hold 0 and 1, and party 2 finds no room.
 #[test]
 fn waiters_wait_for_leavers(rt: HostRuntime) -> Result<(), Fail> {
     let leaver_stops_before_unmark = [
@@ -109,8 +108,7 @@ fn chains_have_their_capacities(rt: HostRuntime) -> Result<(), Fail> {
     Ok(())
 }
 
-// chain(2, 1) has the number 0 alone and no bit; chain(3, 5) has no stage, two bits and the
-// numbers 0, 1 and 2
+/// Chain(2, 1) has the number 0 alone and no bit; chain(3, 5) has no stage, two bits and the numbers 0, 1 and 2.
 #[test]
 fn numbers_are_taken_in_order(rt: HostRuntime) -> Result<(), Fail> {
     let net = chain(rt.alloc(), 2, 1)?;

@@ -9,7 +9,7 @@ use std::process::Abort;
 use std::sync::Wait;
 use std::test::Fail;
 
-// Enters step by step.
+/// Enters step by step.
 fn step_in(rt: &impl Abort, seats: &DeskSeats, out: SeatOut) -> SeatHold
     requires { out.table ≡ seats.now }
     ensures { result.pass.table ≡ seats.now }
@@ -27,7 +27,7 @@ fn step_in(rt: &impl Abort, seats: &DeskSeats, out: SeatOut) -> SeatHold
     panic!(rt; "a party alone is not through after 100 turns")
 }
 
-// Enters step by step and leaves, and then once more at one go.
+/// Enters step by step and leaves, and then once more at one go.
 fn come_twice<R: Abort + Wait>(rt: &R, seats: &DeskSeats, out: SeatOut) -> SeatOut
     requires { out.table ≡ seats.now }
     ensures { result.table ≡ seats.now }
@@ -41,7 +41,7 @@ fn come_twice<R: Abort + Wait>(rt: &R, seats: &DeskSeats, out: SeatOut) -> SeatO
     seats.leave(hold)
 }
 
-// Each party comes twice, and then the seats are closed.
+/// Each party comes twice, and then the seats are closed.
 fn all_come<R: Abort + Wait>(
     rt: &R,
     seats: DeskSeats,

@@ -11,7 +11,7 @@ use std::test::Fail;
 use std::thread::{Threads, join};
 use std::time::Duration;
 
-// the access of a pass among the stages
+/// The access of a pass among the stages.
 fn stage_step(table: &KexTable, e: Entering) -> Next
     requires { e.table ≡ table.now }
     ensures { (pass_in_next result).table ≡ table.now }
@@ -24,7 +24,7 @@ fn stage_step(table: &KexTable, e: Entering) -> Next
     }
 }
 
-// so many accesses on the way in, up to Named
+/// So many accesses on the way in, up to Named.
 fn inward(table: &KexTable, mut next: Next, steps: u32) -> Next
     requires { (pass_in_next next).table ≡ table.now }
     ensures { (pass_in_next result).table ≡ table.now }
@@ -39,7 +39,7 @@ fn inward(table: &KexTable, mut next: Next, steps: u32) -> Next
     next
 }
 
-// the access of a pass that leaves
+/// The access of a pass that leaves.
 fn leave_step(table: &KexTable, l: Leaving) -> Back
     requires { l.table ≡ table.now }
     ensures { (pass_in_back result).table ≡ table.now }
@@ -51,7 +51,7 @@ fn leave_step(table: &KexTable, l: Leaving) -> Back
     }
 }
 
-// so many accesses on the way out, up to Out
+/// So many accesses on the way out, up to Out.
 fn outward(table: &KexTable, mut back: Back, steps: u32) -> Back
     requires { (pass_in_back back).table ≡ table.now }
     ensures { (pass_in_back result).table ≡ table.now }
@@ -65,7 +65,7 @@ fn outward(table: &KexTable, mut back: Back, steps: u32) -> Back
     back
 }
 
-// enters in so many accesses, with the card's among them
+/// Enters in so many accesses, with the card's among them.
 fn hold(table: &KexTable, out: Out, steps: u32) -> Option<Hold>
     requires { out.table ≡ table.now }
     ensures { IfSome result (λ h. h.pass.table ≡ table.now) }
@@ -76,7 +76,7 @@ fn hold(table: &KexTable, out: Out, steps: u32) -> Option<Hold>
     }
 }
 
-// leaves in so many accesses, with the card's among them
+/// Leaves in so many accesses, with the card's among them.
 fn leave(table: &KexTable, hold: Hold, steps: u32) -> Option<Out>
     requires { hold.pass.table ≡ table.now }
     ensures { IfSome result (λ o. o.table ≡ table.now) }
@@ -87,7 +87,7 @@ fn leave(table: &KexTable, hold: Hold, steps: u32) -> Option<Out>
     }
 }
 
-// where a pass on its way in stands. Of Named it is told without its number
+/// Where a pass on its way in stands. Of Named it is told without its number.
 fn place_in(next: &Next) -> Option<Place> {
     match next {
         Next::Entering(e) => Some(e.place()),
@@ -96,7 +96,7 @@ fn place_in(next: &Next) -> Option<Place> {
     }
 }
 
-// where a pass on its way out stands
+/// Where a pass on its way out stands.
 fn place_back(back: &Back) -> Place {
     match back {
         Back::Leaving(l) => l.place(),
@@ -104,8 +104,7 @@ fn place_back(back: &Back) -> Place {
     }
 }
 
-// a table of chain(3, 2), with its passes 0, 1 and 2. It has one stage of capacity 2, one bit and
-// the numbers 0 and 1
+/// A table of chain(3, 2), with its passes 0, 1 and 2. It has one stage of capacity 2, one bit and the numbers 0 and 1.
 fn three(alloc: Global) -> Result<(KexTable, Out, Out, Out), NoMemory>
     ensures { IfOk result (λ t. (t.1.table ≡ t.0) × (t.2.table ≡ t.0) × (t.3.table ≡ t.0)) }
 {
@@ -117,7 +116,7 @@ fn three(alloc: Global) -> Result<(KexTable, Out, Out, Out), NoMemory>
     Ok((table, zero, one, two))
 }
 
-// Parties 0 and 1 have passed, and party 2 finds no room. It naps once while it spins.
+/// Parties 0 and 1 have passed, and party 2 finds no room. It naps once while it spins.
 fn full_stage<R: Wait>(rt: &R, table: &KexTable, two: Out) -> [Option<Place>; 5]
     requires { two.table ≡ table.now }
 {
@@ -157,8 +156,8 @@ fn two_pass_and_the_third_spins(rt: HostRuntime) -> Result<(), Fail> {
     Ok(())
 }
 
-// Parties 0 and 1 hold, and party 2 waits. Party 0 leaves up to its Inc: party 2 still waits.
-// Party 0 unmarks: party 2 passes.
+/// Parties 0 and 1 hold, and party 2 waits. Party 0 leaves up to its Inc: party 2 still waits. Party 0 unmarks: party 2
+/// passes.
 fn unmarking(table: &KexTable, zero: Hold, two: Out) -> ([Option<Place>; 3], [Place; 2])
     requires zero { zero.pass.table ≡ table.now }
     requires two { two.table ≡ table.now }
@@ -191,8 +190,8 @@ fn a_waiter_passes_once_a_leaver_unmarks(rt: HostRuntime) -> Result<(), Fail> {
     Ok(())
 }
 
-// Parties 0 and 1 hold, and party 2 stops before its Mark. Party 0 leaves wholly, comes again and
-// waits. Party 2's Mark lets it go, and then party 2 waits.
+/// Parties 0 and 1 hold, and party 2 stops before its Mark. Party 0 leaves wholly, comes again and waits. Party 2's
+/// Mark lets it go, and then party 2 waits.
 fn late_mark(table: &KexTable, zero: Hold, two: Out) -> Option<[Option<Place>; 4]>
     requires zero { zero.pass.table ≡ table.now }
     requires two { two.table ≡ table.now }
@@ -224,7 +223,7 @@ fn a_late_mark_lets_the_waiter_go(rt: HostRuntime) -> Result<(), Fail> {
     Ok(())
 }
 
-// a table of chain(2, k), with its passes 0 and 1, and an empty list with room for them
+/// A table of chain(2, k), with its passes 0 and 1, and an empty list with room for them.
 fn pair(alloc: Global, k: u32) -> Result<(KexTable, Vec<Out>, Out, Out), NoMemory>
     requires { 1 ≤ k }
     ensures { IfOk result (λ t. (t.0.net.parties ≡ 2) × (t.1.items ≡ []) × (2 ≤ vec_capacity t.1) × (t.2.table ≡ t.0) × (t.3.table ≡ t.0)) }
@@ -236,7 +235,7 @@ fn pair(alloc: Global, k: u32) -> Result<(KexTable, Vec<Out>, Out, Out), NoMemor
     Ok((table, passes, zero, one))
 }
 
-// the uses of all cards together, once both passes are back
+/// The uses of all cards together, once both passes are back.
 fn uses_of(table: KexTable, mut passes: Vec<Out>, zero: Out, one: Out) -> u64
     requires parties { table.net.parties ≡ 2 }
     requires room { (passes.items ≡ []) × (2 ≤ vec_capacity passes) }
@@ -252,7 +251,7 @@ fn uses_of(table: KexTable, mut passes: Vec<Out>, zero: Out, one: Out) -> u64
     uses
 }
 
-// enters and leaves, and tells its number, the seat and the uses
+/// Enters and leaves, and tells its number, the seat and the uses.
 fn trip(table: &KexTable, out: Out) -> Option<(Out, [u64; 3])>
     requires { out.table ≡ table.now }
     ensures { IfSome result (λ t. t.0.table ≡ table.now) }
@@ -266,7 +265,7 @@ fn trip(table: &KexTable, out: Out) -> Option<(Out, [u64; 3])>
     Some((leave(table, held, 3)?, told))
 }
 
-// chain(2, 1) has one stage, no bit and the number 0
+/// Chain(2, 1) has one stage, no bit and the number 0.
 #[test]
 fn a_card_counts_its_uses(rt: HostRuntime) -> Result<(), Fail> {
     let (table, passes, zero, one) = pair(rt.alloc(), 1)?;
@@ -277,7 +276,7 @@ fn a_card_counts_its_uses(rt: HostRuntime) -> Result<(), Fail> {
     Ok(())
 }
 
-// enters and leaves so often, where no party waits
+/// Enters and leaves so often, where no party waits.
 fn trips(table: &KexTable, mut out: Out, times: u32) -> Option<Out>
     requires { out.table ≡ table.now }
     ensures { IfSome result (λ o. o.table ≡ table.now) }
@@ -289,7 +288,7 @@ fn trips(table: &KexTable, mut out: Out, times: u32) -> Option<Out>
     Some(out)
 }
 
-// two threads make so many trips each
+/// Two threads make so many trips each.
 fn both_trip<R: Threads + Sync>(
     rt: &R,
     table: &KexTable,
@@ -309,7 +308,7 @@ fn both_trip<R: Threads + Sync>(
     )
 }
 
-// chain(2, 2) has no stage, one bit and the numbers 0 and 1
+/// Chain(2, 2) has no stage, one bit and the numbers 0 and 1.
 #[test]
 fn two_threads_use_the_cards(rt: HostRuntime) -> Result<(), Fail> {
     let (table, passes, zero, one) = pair(rt.alloc(), 2)?;

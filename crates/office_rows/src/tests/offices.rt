@@ -18,11 +18,11 @@ use std::process::Abort;
 use std::sync::Wait;
 use std::test::Fail;
 
-// Two pools, of two licences and of one.
+/// Two pools, of two licences and of one.
 const TWO_POOLS: &[u8] =
     b"FEATURE draft acme 2.0 permanent 2 SIGN=01\nFEATURE render acme 1.0 permanent 1 SIGN=02\n";
 
-// Ten pools, of which the first has two lines; `doc` is not counted, so no pool is made of it.
+/// Ten pools, of which the first has two lines; `doc` is not counted, so no pool is made of it.
 const SITE: &[u8] = b"SERVER lic1 001122334455 27000\n\
 VENDOR acme /opt/acme/acmed\n\
 INCREMENT edit acme 2024.1 31-dec-2026 5 SIGN=0101\n\
@@ -48,10 +48,10 @@ INCLUDE cam HOST_GROUP lab\n\
 LINGER edit 300\n\
 TIMEOUTALL 3600\n";
 
-// The first second of 2027 in UTC.
+/// The first second of 2027 in UTC.
 const NEW_YEAR: u64 = 1_798_761_600;
 
-// The office of a licence under an options file.
+/// The office of a licence under an options file.
 fn office_of(
     rt: &(impl Abort + Wait + AllocGlobal),
     licence: &[u8],
@@ -71,7 +71,7 @@ fn office_of(
     Ok(Office::make(rt, alloc, &licence, &options, parties)?)
 }
 
-// Checks out, and tells the seat.
+/// Checks out, and tells the seat.
 fn checked_out<R: Wait>(rt: &R, desk: &Desk, pass: &mut DeskPass, client: &Client) -> Option<u32>
     requires { IsOf pass.old desk.now }
     ensures { IsOf pass.new desk.now }
@@ -80,7 +80,7 @@ fn checked_out<R: Wait>(rt: &R, desk: &Desk, pass: &mut DeskPass, client: &Clien
     pass.seat()
 }
 
-// Gives back what the party has.
+/// Gives back what the party has.
 fn quit<R: Wait>(rt: &R, desk: &Desk, pass: &mut DeskPass, client: &Client)
     requires { IsOf pass.old desk.now }
     ensures { IsOf pass.new desk.now × Rests pass.new }
@@ -88,7 +88,7 @@ fn quit<R: Wait>(rt: &R, desk: &Desk, pass: &mut DeskPass, client: &Client)
     pass.ask(rt, desk, Kind::Quit, client, 0);
 }
 
-// Both parties check out, and then give back what they have; the seats that they had at one time.
+/// Both parties check out, and then give back what they have; the seats that they had at one time.
 fn meet<R: Wait>(
     rt: &R,
     desk: &Desk,
@@ -108,7 +108,7 @@ fn meet<R: Wait>(
     (first, second)
 }
 
-// The two parties meet at their first desk.
+/// The two parties meet at their first desk.
 fn all_meet<R: Wait>(
     rt: &R,
     office: &Office,

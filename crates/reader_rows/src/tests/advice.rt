@@ -34,7 +34,7 @@ fn advise(
     Ok(())
 }
 
-// Pool 1 has 1 licence of render and pool 2 has 3. Line 6 names the group of line 1, though no pool has its feature.
+/// Pool 1 has 1 licence of render and pool 2 has 3. Line 6 names the group of line 1, though no pool has its feature.
 #[test]
 fn each_kind_of_advice(rt: HostRuntime) -> Result<(), Fail> {
     let licence = b"SERVER keel 0a1b2c3d4e5f 27015\n\

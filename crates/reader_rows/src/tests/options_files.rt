@@ -13,7 +13,7 @@ fn fault_of(alloc: Global, file: &[u8]) -> Option<OptionsFault>
     read_options(alloc, file).err()
 }
 
-// A file, and its fault alone and behind a good line.
+/// A file, and its fault alone and behind a good line.
 type FaultRow = (&'static [u8], OptionsFault, OptionsFault);
 
 fn check_fault(rt: &(impl Abort + AllocGlobal), row: &FaultRow) -> Result<(), Fail> {
@@ -27,7 +27,7 @@ fn check_fault(rt: &(impl Abort + AllocGlobal), row: &FaultRow) -> Result<(), Fa
     Ok(())
 }
 
-// Each fault alone, and behind a good line.
+/// Each fault alone, and behind a good line.
 #[test]
 fn options_faults(rt: HostRuntime) -> Result<(), Fail> {
     use OptionsFault::*;
@@ -67,7 +67,7 @@ fn options_faults(rt: HostRuntime) -> Result<(), Fail> {
     Ok(())
 }
 
-// A group is looked for in the whole file, and only where no line is at fault.
+/// A group is looked for in the whole file, and only where no line is at fault.
 #[test]
 fn unknown_groups_come_last(rt: HostRuntime) {
     let rows: [(&[u8], Option<OptionsFault>); 6] = [
@@ -118,7 +118,7 @@ fn lines_at_their_limit(rt: HostRuntime) -> Result<(), Fail> {
     Ok(())
 }
 
-// A front, a letter this many times, and an end.
+/// A front, a letter this many times, and an end.
 fn lengthened(
     rt: &(impl Abort + AllocGlobal),
     front: &[u8],
@@ -133,7 +133,7 @@ fn lengthened(
     Ok(file)
 }
 
-// 8,192 bytes are a line, and 8,193 are too many: on the first line, and behind a good one.
+/// 8,192 bytes are a line, and 8,193 are too many: on the first line, and behind a good one.
 #[test]
 fn bytes_of_a_line_at_their_limit(rt: HostRuntime) -> Result<(), Fail> {
     let rows: [(&[u8], usize, Option<OptionsFault>); 4] = [
@@ -158,7 +158,7 @@ fn bytes_of_a_line_at_their_limit(rt: HostRuntime) -> Result<(), Fail> {
     Ok(())
 }
 
-// Names of 64 bytes are names, and those of 65 aren't.
+/// Names of 64 bytes are names, and those of 65 aren't.
 #[test]
 fn names_at_their_limit(rt: HostRuntime) -> Result<(), Fail> {
     let rows: [(&[u8], &[u8]); 6] = [
@@ -183,7 +183,7 @@ fn names_at_their_limit(rt: HostRuntime) -> Result<(), Fail> {
     Ok(())
 }
 
-// 65,535 and 2^40 - 1 are numbers of a rule, and one more is none.
+/// 65,535 and 2^40 - 1 are numbers of a rule, and one more is none.
 #[test]
 fn numbers_at_their_limit(rt: HostRuntime) {
     let bad = Some(OptionsFault::BadNumber(1));
@@ -205,7 +205,7 @@ fn numbers_at_their_limit(rt: HostRuntime) {
     }
 }
 
-// Sixteen lines of 4,092 members, and one of the rest.
+/// Sixteen lines of 4,092 members, and one of the rest.
 #[test]
 fn members_at_their_limit(rt: HostRuntime) -> Result<(), Fail> {
     let mut line = times(&rt, b" a", 4092)?;
@@ -293,7 +293,7 @@ fn what_lines_say(rt: HostRuntime) -> Result<(), Fail> {
     Ok(())
 }
 
-// A text, written canonically, and that text again.
+/// A text, written canonically, and that text again.
 fn check_text(rt: &(impl Abort + AllocGlobal), file: &[u8], text: &[u8]) -> Result<(), Fail> {
     assert!(rt; file.len() < 10_000);
     let options = read_options(rt.alloc(), file)?;
@@ -344,7 +344,7 @@ fn canonical_texts(rt: HostRuntime) -> Result<(), Fail> {
     Ok(())
 }
 
-// A line of 8,192 bytes whose last word ends in a backslash is written as long as it is.
+/// A line of 8,192 bytes whose last word ends in a backslash is written as long as it is.
 #[test]
 fn longest_line_is_read_back(rt: HostRuntime) -> Result<(), Fail> {
     let mut file = b"GROUP g".to_vec(rt.alloc())?;
@@ -380,7 +380,7 @@ fn check_read_back(rt: &(impl Abort + AllocGlobal), file: &[u8]) -> Result<(), F
     }
 }
 
-// The file of a site, cut after each of its bytes.
+/// The file of a site, cut after each of its bytes.
 #[test]
 fn canonical_texts_are_read_back(rt: HostRuntime) -> Result<(), Fail> {
     for end in 0..SITE.len() {

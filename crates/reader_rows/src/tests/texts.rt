@@ -4,7 +4,7 @@ use lic_text::*;
 use std::alloc::Global;
 use std::test::Fail;
 
-// A line as `3:EXCLUDE,edit;`, a fault as `too long 3` or `open 3`.
+/// A line as `3:EXCLUDE,edit;`, a fault as `too long 3` or `open 3`.
 fn rendered(alloc: Global, file: &[u8]) -> Result<Vec<u8>, Fail>
     requires { length file.now < 2 ^ 32 }
 {
@@ -84,7 +84,7 @@ fn lines_and_words(rt: HostRuntime) -> Result<(), Fail> {
     Ok(())
 }
 
-// A text of runs: each byte so many times.
+/// A text of runs: each byte so many times.
 fn text_of(alloc: Global, runs: &[(u8, usize)]) -> Result<Vec<u8>, Fail> {
     let mut text = Vec::new(alloc);
     for (byte, count) in runs {
@@ -94,7 +94,7 @@ fn text_of(alloc: Global, runs: &[(u8, usize)]) -> Result<Vec<u8>, Fail> {
     Ok(text)
 }
 
-// A line as `3;`, a fault as `too long 3` or `open 3`.
+/// A line as `3;`, a fault as `too long 3` or `open 3`.
 fn outline(alloc: Global, file: &[u8]) -> Result<Vec<u8>, Fail>
     requires { length file.now < 2 ^ 32 }
 {

@@ -26,7 +26,8 @@ const ANN: Client<'static> = Client {
     project: "p1",
 };
 
-// While it waits a BEAT is due every 10 seconds, from the moment 100 on, and with the seat every 20 seconds, from 120 on.
+/// While it waits a BEAT is due every 10 seconds, from the moment 100 on, and with the seat every 20 seconds, from 120
+/// on.
 #[test]
 fn a_seat_is_waited_for_and_kept_by_the_clock(rt: HostRuntime) -> Result<(), Fail> {
     let heard = [

@@ -32,8 +32,8 @@ fn summed(alloc: Global, files: usize, log: &[u8]) -> Result<Option<Sums>, Fail>
     }
 }
 
-/// The entries of both pools go by their own places, and lines that sum up a log are passed over. A lingering seat that is
-/// taken again is a grant.
+/// The entries of both pools go by their own places, and lines that sum up a log are passed over. A lingering seat that
+/// is taken again is a grant.
 #[test]
 fn a_run_is_summed(rt: HostRuntime) -> Result<(), Fail> {
     let log = b"# two pools\n\
@@ -62,8 +62,8 @@ fn a_run_is_summed(rt: HostRuntime) -> Result<(), Fail> {
     Ok(())
 }
 
-/// What is held over midnight counts for the day on which it began, from each entry to the next; the seats of a day are those
-/// after its entries.
+/// What is held over midnight counts for the day on which it began, from each entry to the next; the seats of a day are
+/// those after its entries.
 #[test]
 fn a_stretch_counts_for_the_day_on_which_it_begins(rt: HostRuntime) -> Result<(), Fail> {
     let log = b"ENTRY 0 #0 0 0 ann h1 d1 p1 CHECKOUT GRANTED OPEN\n\
@@ -96,8 +96,8 @@ fn a_stretch_counts_for_the_day_on_which_it_begins(rt: HostRuntime) -> Result<()
     Ok(())
 }
 
-/// Each pool has its own days. The seat that is given back on the third day was held on none of its entries, and the last
-/// second that counts for a day of its own is that of 31-dec-9999.
+/// Each pool has its own days. The seat that is given back on the third day was held on none of its entries, and the
+/// last second that counts for a day of its own is that of 31-dec-9999.
 #[test]
 fn the_days_of_two_pools(rt: HostRuntime) -> Result<(), Fail> {
     let log = b"ENTRY 1 #0 172799 0 ann h1 d1 p1 CHECKOUT GRANTED OPEN\n\
@@ -214,7 +214,8 @@ fn the_first_line_that_shows_no_run(rt: HostRuntime) -> Result<(), Fail> {
     Ok(())
 }
 
-/// A line at fault is named before anything is run; a pool that the licence lacks is one where the line has no other fault.
+/// A line at fault is named before anything is run; a pool that the licence lacks is one where the line has no other
+/// fault.
 #[test]
 fn a_line_at_fault_is_named(rt: HostRuntime) -> Result<(), Fail> {
     let rows: [(&[u8], u32, ScriptWord); 3] = [

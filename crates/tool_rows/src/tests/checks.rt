@@ -24,8 +24,8 @@ fn nothing_is_told_of_empty_files(rt: HostRuntime) -> Result<(), Fail> {
     check(&rt, b"", b"", b"OPTIONS\n")
 }
 
-// The fifth line of the licence adds to the first pool, whose version stays as it was written first. The second RESERVE
-// line of `edit` finds 2 of 5 left, and the third none.
+/// The fifth line of the licence adds to the first pool, whose version stays as it was written first. The second
+/// RESERVE line of `edit` finds 2 of 5 left, and the third none.
 #[test]
 fn each_kind_of_line(rt: HostRuntime) -> Result<(), Fail> {
     let licence = b"FEATURE edit acme 2.10 31-dec-2026 4\n\
@@ -94,7 +94,7 @@ fn a_line_is_cut_to_what_is_left(rt: HostRuntime) -> Result<(), Fail> {
     )
 }
 
-// Each pool of the feature cuts its lines for itself, and the pool of another feature cuts none.
+/// Each pool of the feature cuts its lines for itself, and the pool of another feature cuts none.
 #[test]
 fn cuts_are_told_pool_by_pool(rt: HostRuntime) -> Result<(), Fail> {
     check(

@@ -5,7 +5,7 @@ ghost use Rattle.kex_gate.specs.Turns.{guest_in_turn};
 use kex_gate::{GateEntering, GateHold, GateOut, GateTurn, GatedSeats};
 use std::test::Fail;
 
-// the seat, where the turn was the last
+/// The seat, where the turn was the last.
 fn named(gate: &GatedSeats, turn: GateTurn) -> Option<GateHold>
     requires { (guest_in_turn turn).gate ≡ gate.now }
     ensures { IfSome result (λ h. h.guest.gate ≡ gate.now) }
@@ -16,7 +16,7 @@ fn named(gate: &GatedSeats, turn: GateTurn) -> Option<GateHold>
     }
 }
 
-// the pass, where the turn answered Again
+/// The pass, where the turn answered Again.
 fn again(turn: GateTurn) -> Option<GateEntering>
     ensures { IfSome result (λ e. e.guest ≡ guest_in_turn turn) }
 {
@@ -26,7 +26,7 @@ fn again(turn: GateTurn) -> Option<GateEntering>
     }
 }
 
-// the pass, where this turn and so many more answer Again
+/// The pass, where this turn and so many more answer Again.
 fn wait(gate: &GatedSeats, turn: GateTurn, turns: u32) -> Option<GateEntering>
     requires { (guest_in_turn turn).gate ≡ gate.now }
     ensures { IfSome result (λ e. e.guest.gate ≡ gate.now) }
@@ -38,7 +38,8 @@ fn wait(gate: &GatedSeats, turn: GateTurn, turns: u32) -> Option<GateEntering>
     Some(waiting)
 }
 
-// on the gate of 5 sessions and one seat, 0 enters by the fast way, and 1 waits in the tree until 0 has left. It gives the seat of each and whether it was fast
+/// On the gate of 5 sessions and one seat, 0 enters by the fast way, and 1 waits in the tree until 0 has left. It gives
+/// the seat of each and whether it was fast.
 fn second_waits(gate: &GatedSeats, mut passes: Vec<GateOut>) -> Option<[(u32, bool); 2]>
     requires { All (λ p. p.gate ≡ gate.now) passes.items }
 {

@@ -9,12 +9,12 @@ use std::sync::atomic::{AtomicU64, Ordering};
 use std::test::Fail;
 use std::thread::{Threads, map_vec};
 
-// the sessions below this number come and go
+/// The sessions below this number come and go.
 const WORKERS: u32 = 8;
 
 const ROUNDS: u32 = 2000;
 
-// who marked each seat as held, and how often a mark was not as its holder left it
+/// Who marked each seat as held, and how often a mark was not as its holder left it.
 #[derive(Drop)]
 struct Marks {
     holders: [AtomicU64; 4],
@@ -22,7 +22,7 @@ struct Marks {
 }
 
 impl Marks {
-    // writes into the seat's mark, which has to be `old`
+    /// Writes into the seat's mark, which has to be `old`.
     fn change(&self, seat: u32, old: u64, new: u64) {
         let found = self
             .holders
@@ -34,7 +34,7 @@ impl Marks {
     }
 }
 
-// a worker enters and leaves so often, and marks each seat while it is held
+/// A worker enters and leaves so often, and marks each seat while it is held.
 fn come_and_go<R: Wait>(rt: &R, gate: &GatedSeats, marks: &Marks, mut out: GateOut) -> GateOut
     requires { out.gate ≡ gate.now }
     ensures { result.gate ≡ gate.now }
@@ -50,7 +50,7 @@ fn come_and_go<R: Wait>(rt: &R, gate: &GatedSeats, marks: &Marks, mut out: GateO
     out
 }
 
-// each session's thread comes and goes
+/// Each session's thread comes and goes.
 fn come_and_go_all<R: Threads + Wait + Sync>(
     rt: &R,
     gate: &GatedSeats,

@@ -7,7 +7,7 @@ use std::test::Fail;
 
 const STEPS: u32 = 400;
 
-// a fixed generator: a multiplication and an addition modulo 2^64
+/// A fixed generator: a multiplication and an addition modulo 2^64.
 #[derive(Drop)]
 struct Draws {
     state: u64,
@@ -26,7 +26,7 @@ impl Draws {
     }
 }
 
-// the step after which a party stops for good, wherever it stands then
+/// The step after which a party stops for good, wherever it stands then.
 fn last_step(seed: u64, party: u32) -> u32 {
     let mut draws = Draws {
         state: seed.wrapping_add(u64::from(party)),
@@ -41,7 +41,7 @@ fn is_inside(place: Place) -> bool {
     )
 }
 
-// a net's numbers and lists, where the number of stages means Exit
+/// A net's numbers and lists, where the number of stages means Exit.
 #[derive(Drop)]
 struct Shape {
     parties: u32,
@@ -82,7 +82,7 @@ impl Shape {
         self.caps.get(j as usize).copied().unwrap_or(0)
     }
 
-    // whether j is on the party's path
+    /// Whether j is on the party's path.
     fn is_on_path(&self, party: u32, j: u32) -> bool {
         let mut at = self.start.get(party as usize).copied().unwrap_or(j);
         for _step in 0..self.stages {
@@ -95,7 +95,7 @@ impl Shape {
     }
 }
 
-// past the Dec of j and before its Inc, and not waiting there, for a stage j on the path
+/// Past the Dec of j and before its Inc, and not waiting there, for a stage j on the path.
 fn has_passed(place: Place, j: u32) -> bool {
     match place {
         Place::Dec(i) | Place::Mark(i) | Place::Look(i) | Place::Spin(i) | Place::Unmark(i) => j
@@ -105,7 +105,7 @@ fn has_passed(place: Place, j: u32) -> bool {
     }
 }
 
-// past the Dec of j and not yet past its Unmark, for a stage j on the path
+/// Past the Dec of j and not yet past its Unmark, for a stage j on the path.
 fn is_between(place: Place, j: u32) -> bool {
     match place {
         Place::Dec(i) => j < i,
@@ -157,7 +157,7 @@ fn others_holding(shape: &Shape, world: &World, party: u32, s: u32) -> u32
     total
 }
 
-// whether a holder has a number of its own below m, and a waiter c others at its stage
+/// Whether a holder has a number of its own below m, and a waiter c others at its stage.
 fn is_party_safe(shape: &Shape, world: &World, party: u32) -> bool
     requires parties { shape.now.parties ≡ world.now.net.parties }
     requires stages { shape.now.stages ≡ length world.now.net.caps }
@@ -191,7 +191,7 @@ fn is_safe(shape: &Shape, world: &World) -> bool
     count_inside(shape, world) <= shape.width
 }
 
-// whether a random schedule of the net stays safe
+/// Whether a random schedule of the net stays safe.
 fn stays_safe(alloc: Global, net: Net, seed: u64) -> Result<bool, NoMemory> {
     net.laws();
     let parties = net.parties();

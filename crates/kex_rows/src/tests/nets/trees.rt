@@ -5,7 +5,7 @@ use kex_net::{chain, gated, tree};
 use std::alloc::Global;
 use std::test::Fail;
 
-// whether the net has these stages and starts, where the number of stages means Exit
+/// Whether the net has these stages and starts, where the number of stages means Exit.
 fn has_lists(net: &Net, caps: &[u32], next: &[u32], start: &[u32]) -> bool {
     let exit = net.stages();
     exit as usize == caps.len()
@@ -59,7 +59,7 @@ fn gate_leads_behind_the_tree(rt: HostRuntime) -> Result<(), Fail> {
     Ok(())
 }
 
-// how many stages are on a party's path
+/// How many stages are on a party's path.
 fn path_length(net: &Net, party: u32) -> u32
     requires { party < net.now.parties }
 {
@@ -94,8 +94,8 @@ fn are_paths(net: &Net, length: u32) -> bool {
     longest_path(net) == length && shortest_path(net) == length
 }
 
-// n = 256: a tree of g = 256/m groups has log2 g levels of m stages, a chain 256 - m stages,
-// and that many are in each net
+/// N = 256: a tree of g = 256/m groups has log2 g levels of m stages, a chain 256 - m stages, and that many are in each
+/// net.
 #[test]
 fn paths_are_short_in_trees(rt: HostRuntime) -> Result<(), Fail> {
     for (k, in_tree, in_chain) in [
@@ -114,7 +114,7 @@ fn paths_are_short_in_trees(rt: HostRuntime) -> Result<(), Fail> {
     Ok(())
 }
 
-// how many can come to j, or for the number of stages to Exit
+/// How many can come to j, or for the number of stages to Exit.
 fn comers(net: &Net, j: u32) -> u32 {
     let mut total = 0u32;
     for party in 0..net.parties() {
@@ -138,7 +138,7 @@ fn has_room(net: &Net) -> bool {
     comers(net, net.stages()) <= net.width()
 }
 
-// the levels over so many groups
+/// The levels over so many groups.
 fn levels(groups: u32) -> u32 {
     let mut reached = 1u32;
     for levels in 0..32 {
@@ -150,7 +150,7 @@ fn levels(groups: u32) -> u32 {
     32
 }
 
-// whether the tree for n and k has its stages, room at each, and at most m a level on each path
+/// Whether the tree for n and k has its stages, room at each, and at most m a level on each path.
 fn is_right(alloc: Global, n: u32, k: u32) -> Result<bool, NoMemory>
     requires two { 2 ≤ n }
     requires small { n ≤ 256 }

@@ -11,7 +11,7 @@ use std::alloc::Global;
 use std::sync::Wait;
 use std::test::Fail;
 
-// so many accesses of one party, and where it stands afterwards
+/// So many accesses of one party, and where it stands afterwards.
 #[derive(Clone, Copy)]
 struct Row {
     party: u32,
@@ -27,7 +27,7 @@ fn expect(party: u32, accesses: u32, place: Place) -> Row {
     }
 }
 
-// so many accesses of one party
+/// So many accesses of one party.
 fn steps(parties: &mut Parties, party: u32, accesses: u32)
     requires { party < parties.old.table.net.parties }
     ensures { parties.new.table ≡ parties.old.table }
@@ -37,7 +37,7 @@ fn steps(parties: &mut Parties, party: u32, accesses: u32)
     }
 }
 
-// the first of these rows that chain(3, 2) doesn't follow
+/// The first of these rows that chain(3, 2) doesn't follow.
 fn first_wrong(alloc: Global, rows: &[Row]) -> Result<Option<usize>, NoMemory> {
     let mut parties = Parties::make(alloc, chain(alloc, 3, 2)?)?;
     for (i, row) in rows.iter().enumerate() {
@@ -50,7 +50,7 @@ fn first_wrong(alloc: Global, rows: &[Row]) -> Result<Option<usize>, NoMemory> {
     Ok(None)
 }
 
-// chain(3, 2) has one stage of capacity 2
+/// Chain(3, 2) has one stage of capacity 2.
 #[test]
 fn step_calls_follow_the_rows(rt: HostRuntime) -> Result<(), Fail> {
     let third_finds_no_room = [
@@ -89,7 +89,7 @@ fn step_calls_follow_the_rows(rt: HostRuntime) -> Result<(), Fail> {
     Ok(())
 }
 
-// the pass, where the turn answered Again
+/// The pass, where the turn answered Again.
 fn again(turn: Turn) -> Option<Entering>
     ensures { IfSome result (λ e. e.table ≡ (pass_in_turn turn).table) }
 {
@@ -99,7 +99,7 @@ fn again(turn: Turn) -> Option<Entering>
     }
 }
 
-// enters by at most one turn, and so without a wait
+/// Enters by at most one turn, and so without a wait.
 fn come(seats: &Seats, out: Out) -> Option<Hold>
     requires { out.table ≡ seats.now }
     ensures { IfSome result (λ h. h.pass.table ≡ seats.now) }
@@ -110,7 +110,7 @@ fn come(seats: &Seats, out: Out) -> Option<Hold>
     }
 }
 
-// the seat, where the turn was the last
+/// The seat, where the turn was the last.
 fn named(seats: &Seats, turn: Turn) -> Option<Hold>
     requires { (pass_in_turn turn).table ≡ seats.now }
     ensures { IfSome result (λ h. h.pass.table ≡ seats.now) }
@@ -121,7 +121,7 @@ fn named(seats: &Seats, turn: Turn) -> Option<Hold>
     }
 }
 
-// the pass, where this turn and so many more answer Again
+/// The pass, where this turn and so many more answer Again.
 fn wait(seats: &Seats, turn: Turn, turns: u32) -> Option<Entering>
     requires { (pass_in_turn turn).table ≡ seats.now }
     ensures { IfSome result (λ e. e.table ≡ seats.now) }
@@ -133,7 +133,8 @@ fn wait(seats: &Seats, turn: Turn, turns: u32) -> Option<Entering>
     Some(waiting)
 }
 
-// on chain(3, 2) parties 0 and 1 hold, and 2 comes through with its turn after 0 has left. It gives the seats of 0, 1 and 2
+/// On chain(3, 2) parties 0 and 1 hold, and 2 comes through with its turn after 0 has left. It gives the seats of 0, 1
+/// and 2.
 fn third_follows(seats: &Seats, mut passes: Vec<Out>) -> Option<[u32; 3]>
     requires { All (λ p. p.table ≡ seats.now) passes.items }
 {
@@ -147,7 +148,8 @@ fn third_follows(seats: &Seats, mut passes: Vec<Out>) -> Option<[u32; 3]>
     Some([seat, one.seat(), two.seat()])
 }
 
-// on chain(3, 2) parties 0 and 1 hold, 2 stops before its Mark, 0 leaves and comes again, and waits until 2 writes its Mark. It gives the seat of 0, and where 2 waits then
+/// On chain(3, 2) parties 0 and 1 hold, 2 stops before its Mark, 0 leaves and comes again, and waits until 2 writes its
+/// Mark. It gives the seat of 0, and where 2 waits then.
 fn marker_lets_go(seats: &Seats, mut passes: Vec<Out>) -> Option<(u32, Place)>
     requires { All (λ p. p.table ≡ seats.now) passes.items }
 {
@@ -172,7 +174,7 @@ fn turns_follow_the_rows(rt: HostRuntime) -> Result<(), Fail> {
     Ok(())
 }
 
-// the last of the passes
+/// The last of the passes.
 fn take(seats: &Seats, passes: &mut Vec<Out>) -> Option<Out>
     requires { All (λ p. p.table ≡ seats.now) passes.old.items }
     ensures own { IfSome result (λ p. p.table ≡ seats.now) }
@@ -183,7 +185,7 @@ fn take(seats: &Seats, passes: &mut Vec<Out>) -> Option<Out>
     passes.pop()
 }
 
-// leaves, and puts the pass to the others
+/// Leaves, and puts the pass to the others.
 fn go(seats: &Seats, passes: &mut Vec<Out>, hold: Hold)
     requires own { hold.pass.table ≡ seats.now }
     requires others { All (λ p. p.table ≡ seats.now) passes.old.items }
@@ -195,7 +197,8 @@ fn go(seats: &Seats, passes: &mut Vec<Out>, hold: Hold)
     passes.push_reserved(seats.leave(hold));
 }
 
-// the seats and the cards' uses, where all three parties come, 1 leaves and comes again, and all leave and are taken in one by one
+/// The seats and the cards' uses, where all three parties come, 1 leaves and comes again, and all leave and are taken
+/// in one by one.
 fn come_and_go(seats: Seats, mut passes: Vec<Out>) -> Option<([u32; 4], [u64; 3])>
     requires three { seats.net.parties ≡ 3 }
     requires own { All (λ p. p.table ≡ seats) passes.items }
@@ -217,7 +220,7 @@ fn come_and_go(seats: Seats, mut passes: Vec<Out>) -> Option<([u32; 4], [u64; 3]
     Some((taken, uses))
 }
 
-// party, seat and uses of one who enters, and the uses of the first card once it has left
+/// Party, seat and uses of one who enters, and the uses of the first card once it has left.
 fn enter_once<R: Wait>(rt: &R, seats: Seats, mut passes: Vec<Out>) -> Option<((u32, u32, u64), u64)>
     requires count { vec_len passes ≡ seats.net.parties }
     requires own { All (λ p. p.table ≡ seats) passes.items }
@@ -230,7 +233,7 @@ fn enter_once<R: Wait>(rt: &R, seats: Seats, mut passes: Vec<Out>) -> Option<((u
     Some((told, cards.first()?.uses))
 }
 
-// chain(3, 5) has no stage and three numbers, chain(2, 1) one stage and the number 0
+/// Chain(3, 5) has no stage and three numbers, chain(2, 1) one stage and the number 0.
 #[test]
 fn numbers_are_taken_in_order(rt: HostRuntime) -> Result<(), Fail> {
     let alloc = rt.alloc();

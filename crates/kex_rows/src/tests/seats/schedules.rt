@@ -9,7 +9,7 @@ use std::test::Fail;
 
 const STEPS: u32 = 400;
 
-// a fixed generator: a multiplication and an addition modulo 2^64
+/// A fixed generator: a multiplication and an addition modulo 2^64.
 #[derive(Drop)]
 struct Draws {
     state: u64,
@@ -28,7 +28,7 @@ impl Draws {
     }
 }
 
-// whether each party stands at the same place in both
+/// Whether each party stands at the same place in both.
 fn agree(world: &World, parties: &Parties) -> bool
     requires { world.now.net.parties ≡ parties.now.table.net.parties }
 {
@@ -40,7 +40,7 @@ fn agree(world: &World, parties: &Parties) -> bool
     true
 }
 
-// the first step of a schedule after which a place differs
+/// The first step of a schedule after which a place differs.
 fn first_apart(alloc: Global, net: Net, same: Net, seed: u64) -> Result<Option<u32>, NoMemory>
     requires { net.parties ≡ same.parties }
 {

@@ -12,7 +12,7 @@ use std::thread::{Threads, map_vec};
 
 const ROUNDS: u32 = 2000;
 
-// who marked each seat as held, and how often a mark was not as its holder left it
+/// Who marked each seat as held, and how often a mark was not as its holder left it.
 #[derive(Drop)]
 struct Marks {
     holders: [AtomicU64; 3],
@@ -20,7 +20,7 @@ struct Marks {
 }
 
 impl Marks {
-    // writes into the seat's mark, which has to be `old`
+    /// Writes into the seat's mark, which has to be `old`.
     fn change(&self, seat: u32, old: u64, new: u64) {
         let found = self
             .holders
@@ -32,7 +32,7 @@ impl Marks {
     }
 }
 
-// enters and leaves so often, and marks each seat while it is held
+/// Enters and leaves so often, and marks each seat while it is held.
 fn come_and_go<R: Wait>(rt: &R, seats: &Seats, marks: &Marks, mut out: Out) -> Out
     requires { out.table ≡ seats.now }
     ensures { result.table ≡ seats.now }
@@ -47,7 +47,7 @@ fn come_and_go<R: Wait>(rt: &R, seats: &Seats, marks: &Marks, mut out: Out) -> O
     out
 }
 
-// each party's thread comes and goes
+/// Each party's thread comes and goes.
 fn come_and_go_all<R: Threads + Wait + Sync>(
     rt: &R,
     seats: &Seats,
