@@ -9,6 +9,6 @@ mod reply_reading;
 mod writing;
 
 pub use laws::{logs_read_back, replies_read_back};
-pub use queue::{LogPush, LogTake, QueueId, log_queue};
+pub use queue::{ENTRY_LIMIT, LogPush, LogTake, QueueId, log_queue};
 pub use reading::{Logged, is_summary, read_entry};
 pub use writing::{write_entry, write_log, write_tally};

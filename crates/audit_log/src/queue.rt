@@ -9,8 +9,8 @@ use std::alloc::Global;
 use std::marker::Model;
 use std::sync::{Arc, Wait};
 
-/// How many entries a log keeps.
-const ENTRY_LIMIT: usize = 4096;
+/// The most entries that a log keeps.
+pub const ENTRY_LIMIT: usize = 4096;
 
 /// The end of a log's queue at which entries go in. One thread at a time has it.
 ///
