@@ -14,7 +14,7 @@ use Rattle.script_words.specs.Fields.{and_then}
 use Rattle.script_words.specs.declared.fault.ScriptWord.{ScriptWord}
 use Rattle.script_words.specs.declared.fault.ScriptWord.TheVariants.{UnknownWord}
 use Rattle.audit_log.specs.Laws.{IsCharge, IsReply, RepliesReadBack}
-use Rattle.audit_log.specs.Replies.{alone, bare_of, behind, charge_of, counts_of, exact, last_32, last_64, no_seat_of, own_of, owned, printed, reply_by, reply_of, tagged}
+use Rattle.audit_log.specs.Replies.{alone, bare_of, behind, charge_of, counts_of, exact, last_32, last_64, no_seat_of, own_of, own_and_words, printed_number, reply_by, reply_of, number_behind_word}
 use Rattle.script_words.proofs.Tokens.{IsToken, last, next, number_back, token_number}
 
 -- Numbers and words behind one another, read.
@@ -25,11 +25,11 @@ same word = (bytes_eq-Decides word word).1 refl
 exact_back : (most n : ℕ) (words : List (List ℕ)) → n ≤ most → n < 2 ^ 64 → exact most (decimal n ∷ words) ≡ Ok (n, words)
 exact_back most n words h small =
     let fits : leb n most ≡ true = le-leb n most h in
-    let is : printed most (decimal n) (number_of (decimal n)) ≡ Ok n =
-    ap (printed most (decimal n)) (number_back n small) ∙ (λ i. cond (fits i && same (decimal n) i) (Ok n) (Err UnknownWord)) in
+    let is : printed_number most (decimal n) (number_of (decimal n)) ≡ Ok n =
+    ap (printed_number most (decimal n)) (number_back n small) ∙ (λ i. cond (fits i && same (decimal n) i) (Ok n) (Err UnknownWord)) in
     ap (λ (r : Result ℕ ScriptWord). and_then r (λ n. Ok (n, words))) is
 
-tagged_back : (most n : ℕ) (tag : List ℕ) (words : List (List ℕ)) → n ≤ most → n < 2 ^ 64 → tagged most tag (tag ∷ decimal n ∷ words) ≡ Ok (n, words)
+tagged_back : (most n : ℕ) (tag : List ℕ) (words : List (List ℕ)) → n ≤ most → n < 2 ^ 64 → number_behind_word most tag (tag ∷ decimal n ∷ words) ≡ Ok (n, words)
 tagged_back most n tag words h small = ap (λ b. and_then (cond b (Ok (decimal n ∷ words)) (Err UnknownWord)) (exact most)) (same tag) ∙ exact_back most n words h small
 
 -- The words of each reply.
@@ -126,7 +126,7 @@ own_back false false h = refl
 pub then_ok : {X Y : Type 0} (r : Result X ScriptWord) (f : X → Result Y ScriptWord) (x : X) (y : Result Y ScriptWord) → r ≡ Ok x → f x ≡ y → and_then r f ≡ y
 then_ok r f x y h g = ap (λ r. and_then r f) h ∙ g
 
-owned_back : (own queued : Bool) → (own && queued) ≡ false → owned (own_text own queued ∷ []) ≡ Ok ((own, queued), [])
+owned_back : (own queued : Bool) → (own && queued) ≡ false → own_and_words (own_text own queued ∷ []) ≡ Ok ((own, queued), [])
 owned_back own queued h = then_ok (own_of (own_text own queued)) _ (own, queued) _ (own_back own queued h) refl
 
 counts_back : (held lingering taken free : ℕ) (own queued : Bool) → held < 2 ^ 32 → lingering < 2 ^ 32 → taken < 2 ^ 32 → free < 2 ^ 32 → (own && queued) ≡ false
@@ -136,22 +136,22 @@ counts_back held lingering taken free own queued a b c d o =
     let frees : List (List ℕ) = codes "OF" ∷ decimal free ∷ owns in
     let takens : List (List ℕ) = codes "OPEN" ∷ decimal taken ∷ frees in
     let lingers : List (List ℕ) = codes "LINGERING" ∷ decimal lingering ∷ takens in
-    then_ok (tagged last_32 (codes "HELD") (codes "HELD" ∷ decimal held ∷ lingers)) _ (held, lingers) _ (tagged_back last_32 held (codes "HELD") lingers (omega arith) (omega arith))
-    (then_ok (tagged last_32 (codes "LINGERING") lingers) _ (lingering, takens) _ (tagged_back last_32 lingering (codes "LINGERING") takens (omega arith) (omega arith))
-    (then_ok (tagged last_32 (codes "OPEN") takens) _ (taken, frees) _ (tagged_back last_32 taken (codes "OPEN") frees (omega arith) (omega arith))
-    (then_ok (tagged last_32 (codes "OF") frees) _ (free, owns) _ (tagged_back last_32 free (codes "OF") owns (omega arith) (omega arith))
-    (then_ok (owned (own_text own queued ∷ [])) _ ((own, queued), []) _ (owned_back own queued o) refl))))
+    then_ok (number_behind_word last_32 (codes "HELD") (codes "HELD" ∷ decimal held ∷ lingers)) _ (held, lingers) _ (tagged_back last_32 held (codes "HELD") lingers (omega arith) (omega arith))
+    (then_ok (number_behind_word last_32 (codes "LINGERING") lingers) _ (lingering, takens) _ (tagged_back last_32 lingering (codes "LINGERING") takens (omega arith) (omega arith))
+    (then_ok (number_behind_word last_32 (codes "OPEN") takens) _ (taken, frees) _ (tagged_back last_32 taken (codes "OPEN") frees (omega arith) (omega arith))
+    (then_ok (number_behind_word last_32 (codes "OF") frees) _ (free, owns) _ (tagged_back last_32 free (codes "OF") owns (omega arith) (omega arith))
+    (then_ok (own_and_words (own_text own queued ∷ [])) _ ((own, queued), []) _ (owned_back own queued o) refl))))
 
 pub list_back : (r : Reply) → IsReply r → reply_of (reply_list r) ≡ Ok r
 list_back (reply.Granted charge) h = then_ok (charge_of (charge_words charge)) _ charge _ (charge_back charge h) refl
 list_back (reply.Retaken charge) h = then_ok (charge_of (charge_words charge)) _ charge _ (charge_back charge h) refl
-list_back (reply.Denied line) h = then_ok (tagged last_32 (codes "LINE") (codes "LINE" ∷ decimal line ∷ [])) _ (line, []) _ (tagged_back last_32 line (codes "LINE") [] (omega arith) (omega arith)) refl
+list_back (reply.Denied line) h = then_ok (number_behind_word last_32 (codes "LINE") (codes "LINE" ∷ decimal line ∷ [])) _ (line, []) _ (tagged_back last_32 line (codes "LINE") [] (omega arith) (omega arith)) refl
 list_back (reply.NoSeat taken free) h =
-    then_ok (tagged last_32 (codes "TAKEN") (codes "TAKEN" ∷ decimal taken ∷ codes "OF" ∷ decimal free ∷ [])) _ (taken, codes "OF" ∷ decimal free ∷ []) _ (tagged_back last_32 taken (codes "TAKEN") (codes "OF" ∷ decimal free ∷ []) (omega (arith, h.0)) (omega (arith, h.0)))
-    (then_ok (tagged last_32 (codes "OF") (codes "OF" ∷ decimal free ∷ [])) _ (free, []) _ (tagged_back last_32 free (codes "OF") [] (omega (arith, h.1)) (omega (arith, h.1))) refl)
+    then_ok (number_behind_word last_32 (codes "TAKEN") (codes "TAKEN" ∷ decimal taken ∷ codes "OF" ∷ decimal free ∷ [])) _ (taken, codes "OF" ∷ decimal free ∷ []) _ (tagged_back last_32 taken (codes "TAKEN") (codes "OF" ∷ decimal free ∷ []) (omega (arith, h.0)) (omega (arith, h.0)))
+    (then_ok (number_behind_word last_32 (codes "OF") (codes "OF" ∷ decimal free ∷ [])) _ (free, []) _ (tagged_back last_32 free (codes "OF") [] (omega (arith, h.1)) (omega (arith, h.1))) refl)
 list_back reply.AlreadyHeld h = refl
 list_back reply.Returned h = refl
-list_back (reply.Lingering until) h = then_ok (tagged last_64 (codes "UNTIL") (codes "UNTIL" ∷ decimal until ∷ [])) _ (until, []) _ (tagged_back last_64 until (codes "UNTIL") [] (omega arith) h) refl
+list_back (reply.Lingering until) h = then_ok (number_behind_word last_64 (codes "UNTIL") (codes "UNTIL" ∷ decimal until ∷ [])) _ (until, []) _ (tagged_back last_64 until (codes "UNTIL") [] (omega arith) h) refl
 list_back reply.NotHeld h = refl
 list_back reply.Beaten h = refl
 list_back reply.Held h = refl
@@ -180,7 +180,7 @@ printed_if most word v n true e h =
     subst (λ x. (word ≡ decimal x) × (x ≤ most)) is (tag_is word (decimal v) parts.1, leb-true v most parts.0)
 printed_if most word v n false e h = absurd cc
 
-printed_ok : (most : ℕ) (word : List ℕ) (o : Option ℕ) (n : ℕ) → printed most word o ≡ Ok n → (word ≡ decimal n) × (n ≤ most)
+printed_ok : (most : ℕ) (word : List ℕ) (o : Option ℕ) (n : ℕ) → printed_number most word o ≡ Ok n → (word ≡ decimal n) × (n ≤ most)
 printed_ok most word None n h = absurd cc
 printed_ok most word (Some v) n h = printed_if most word v n (leb v most && pointwise nat_eq word (decimal v)) refl h
 
@@ -192,7 +192,7 @@ record AreNumber (most : ℕ) (words : List (List ℕ)) (n : ℕ) (rest : List (
 exact_ok : (most : ℕ) (words : List (List ℕ)) (p : ℕ × List (List ℕ)) → exact most words ≡ Ok p → AreNumber most words p.0 p.1
 exact_ok most [] p h = absurd cc
 exact_ok most (word ∷ words) p h =
-    let b = bind_ok (printed most word (number_of word)) (λ n. Ok (n, words)) p h in
+    let b = bind_ok (printed_number most word (number_of word)) (λ n. Ok (n, words)) p h in
     let q = printed_ok most word (number_of word) b.0 b.1 in
     let is : (b.0, words) ≡ p = cc in
     subst (λ (p : ℕ × List (List ℕ)). AreNumber most (word ∷ words) p.0 p.1) is (record { is = ap (λ w. w ∷ words) q.0; low = q.1 })
@@ -210,7 +210,7 @@ record AreTagged (most : ℕ) (tag : List ℕ) (words : List (List ℕ)) (n : �
   is : words ≡ tag ∷ decimal n ∷ rest
   low : n ≤ most
 
-tagged_ok : (most : ℕ) (tag : List ℕ) (words : List (List ℕ)) (p : ℕ × List (List ℕ)) → tagged most tag words ≡ Ok p → AreTagged most tag words p.0 p.1
+tagged_ok : (most : ℕ) (tag : List ℕ) (words : List (List ℕ)) (p : ℕ × List (List ℕ)) → number_behind_word most tag words ≡ Ok p → AreTagged most tag words p.0 p.1
 tagged_ok most tag words p h =
     let b = bind_ok (behind tag words) (exact most) p h in
     let q = exact_ok most b.0 p b.2 in
@@ -229,9 +229,9 @@ exact_alone most f words x h =
     (b.0.0, a.0, q.is ∙ ap (λ (ws : List (List ℕ)). decimal b.0.0 ∷ ws) a.1, q.low)
 
 -- a word, a number and nothing behind it
-tagged_alone : {X : Type 0} (most : ℕ) (tag : List ℕ) (f : ℕ → X) (words : List (List ℕ)) (x : X) → and_then (tagged most tag words) (λ n. alone (f n.0) n.1) ≡ Ok x → (n : ℕ) × (f n ≡ x) × (words ≡ tag ∷ decimal n ∷ []) × (n ≤ most)
+tagged_alone : {X : Type 0} (most : ℕ) (tag : List ℕ) (f : ℕ → X) (words : List (List ℕ)) (x : X) → and_then (number_behind_word most tag words) (λ n. alone (f n.0) n.1) ≡ Ok x → (n : ℕ) × (f n ≡ x) × (words ≡ tag ∷ decimal n ∷ []) × (n ≤ most)
 tagged_alone most tag f words x h =
-    let b = bind_ok (tagged most tag words) (λ n. alone (f n.0) n.1) x h in
+    let b = bind_ok (number_behind_word most tag words) (λ n. alone (f n.0) n.1) x h in
     let q = tagged_ok most tag words b.0 b.1 in
     let a = alone_ok (f b.0.0) x b.0.1 b.2 in
     (b.0.0, a.0, q.is ∙ ap (λ (ws : List (List ℕ)). tag ∷ decimal b.0.0 ∷ ws) a.1, q.low)
@@ -253,7 +253,7 @@ Spells words r = (words ≡ reply_list r) × IsReply r
 
 no_seat_ok : (words : List (List ℕ)) (r : Reply) → no_seat_of words ≡ Ok r → Spells (codes "NOSEAT" ∷ words) r
 no_seat_ok words r h =
-    let b = bind_ok (tagged last_32 (codes "TAKEN") words) _ r h in
+    let b = bind_ok (number_behind_word last_32 (codes "TAKEN") words) _ r h in
     let q = tagged_ok last_32 (codes "TAKEN") words b.0 b.1 in
     let a = tagged_alone last_32 (codes "OF") (reply.NoSeat b.0.0) b.0.1 r b.2 in
     subst (Spells (codes "NOSEAT" ∷ words)) a.1 (ap (λ (ws : List (List ℕ)). codes "NOSEAT" ∷ ws) q.is ∙ ap (λ (ws : List (List ℕ)). codes "NOSEAT" ∷ codes "TAKEN" ∷ decimal b.0.0 ∷ ws) a.2, ((let low = q.low in omega arith), let low = a.3 in omega arith))
@@ -268,7 +268,7 @@ own_ok word own h =
     (λ t e. let is : (false, false) ≡ own = cc in subst (λ (o : Bool × Bool). (word ≡ own_text o.0 o.1) × ((o.0 && o.1) ≡ false)) is (tag_is word (codes "0") t, refl))
     (λ _ e. absurd cc)))
 
-owned_ok : (words : List (List ℕ)) (own : (Bool × Bool) × List (List ℕ)) → owned words ≡ Ok own → (words ≡ own_text own.0.0 own.0.1 ∷ own.1) × ((own.0.0 && own.0.1) ≡ false)
+owned_ok : (words : List (List ℕ)) (own : (Bool × Bool) × List (List ℕ)) → own_and_words words ≡ Ok own → (words ≡ own_text own.0.0 own.0.1 ∷ own.1) × ((own.0.0 && own.0.1) ≡ false)
 owned_ok [] own h = absurd cc
 owned_ok (word ∷ words) own h =
     let b = bind_ok (own_of word) (λ o. Ok (o, words)) own h in
@@ -278,17 +278,17 @@ owned_ok (word ∷ words) own h =
 
 counts_ok : (words : List (List ℕ)) (r : Reply) → counts_of words ≡ Ok r → Spells (codes "COUNTS" ∷ words) r
 counts_ok words r h =
-    let b₁ = bind_ok (tagged last_32 (codes "HELD") words) _ r h in
+    let b₁ = bind_ok (number_behind_word last_32 (codes "HELD") words) _ r h in
     let q₁ = tagged_ok last_32 (codes "HELD") words b₁.0 b₁.1 in
-    let b₂ = bind_ok (tagged last_32 (codes "LINGERING") b₁.0.1) _ r b₁.2 in
+    let b₂ = bind_ok (number_behind_word last_32 (codes "LINGERING") b₁.0.1) _ r b₁.2 in
     let q₂ = tagged_ok last_32 (codes "LINGERING") b₁.0.1 b₂.0 b₂.1 in
-    let b₃ = bind_ok (tagged last_32 (codes "OPEN") b₂.0.1) _ r b₂.2 in
+    let b₃ = bind_ok (number_behind_word last_32 (codes "OPEN") b₂.0.1) _ r b₂.2 in
     let q₃ = tagged_ok last_32 (codes "OPEN") b₂.0.1 b₃.0 b₃.1 in
-    let b₄ = bind_ok (tagged last_32 (codes "OF") b₃.0.1) _ r b₃.2 in
+    let b₄ = bind_ok (number_behind_word last_32 (codes "OF") b₃.0.1) _ r b₃.2 in
     let q₄ = tagged_ok last_32 (codes "OF") b₃.0.1 b₄.0 b₄.1 in
     let b₅ = bind_ok (behind (codes "OWN") b₄.0.1) _ r b₄.2 in
     let q₅ = behind_ok (codes "OWN") b₄.0.1 b₅.0 b₅.1 in
-    let b₆ = bind_ok (owned b₅.0) _ r b₅.2 in
+    let b₆ = bind_ok (own_and_words b₅.0) _ r b₅.2 in
     let q₆ = owned_ok b₅.0 b₆.0 b₆.1 in
     let a = alone_ok (reply.Counts b₁.0.0 b₂.0.0 b₃.0.0 b₄.0.0 b₆.0.0.0 b₆.0.0.1) r b₆.0.1 b₆.2 in
     let l₆ : b₅.0 ≡ own_text b₆.0.0.0 b₆.0.0.1 ∷ [] = q₆.0 ∙ ap (λ (ws : List (List ℕ)). own_text b₆.0.0.0 b₆.0.0.1 ∷ ws) a.1 in
@@ -332,12 +332,12 @@ retaken_ok words r h =
     let is : reply.Retaken b.0 ≡ r = cc in
     subst (Spells (codes "RETAKEN" ∷ words)) is (ap (λ (ws : List (List ℕ)). codes "RETAKEN" ∷ ws) q.0, q.1)
 
-denied_ok : (words : List (List ℕ)) (r : Reply) → and_then (tagged last_32 (codes "LINE") words) (λ line. alone (reply.Denied line.0) line.1) ≡ Ok r → Spells (codes "DENIED" ∷ words) r
+denied_ok : (words : List (List ℕ)) (r : Reply) → and_then (number_behind_word last_32 (codes "LINE") words) (λ line. alone (reply.Denied line.0) line.1) ≡ Ok r → Spells (codes "DENIED" ∷ words) r
 denied_ok words r h =
     let a = tagged_alone last_32 (codes "LINE") reply.Denied words r h in
     subst (Spells (codes "DENIED" ∷ words)) a.1 (ap (λ (ws : List (List ℕ)). codes "DENIED" ∷ ws) a.2, let low = a.3 in omega arith)
 
-lingering_ok : (words : List (List ℕ)) (r : Reply) → and_then (tagged last_64 (codes "UNTIL") words) (λ until. alone (reply.Lingering until.0) until.1) ≡ Ok r → Spells (codes "LINGERING" ∷ words) r
+lingering_ok : (words : List (List ℕ)) (r : Reply) → and_then (number_behind_word last_64 (codes "UNTIL") words) (λ until. alone (reply.Lingering until.0) until.1) ≡ Ok r → Spells (codes "LINGERING" ∷ words) r
 lingering_ok words r h =
     let a = tagged_alone last_64 (codes "UNTIL") reply.Lingering words r h in
     subst (Spells (codes "LINGERING" ∷ words)) a.1 (ap (λ (ws : List (List ℕ)). codes "LINGERING" ∷ ws) a.2, let low = a.3 in omega arith)

@@ -22,18 +22,18 @@ behind tag [] = Err UnknownWord
 behind tag (word ∷ words) = if pointwise nat_eq word tag then Ok words else Err UnknownWord
 
 -- a number up to the last, of which the word is the text that is printed
-abbrev pub printed : ℕ → List ℕ → Option ℕ → Result ℕ ScriptWord
-printed last word None = Err UnknownWord
-printed last word (Some n) = if nat_le n last && pointwise nat_eq word (decimal n) then Ok n else Err UnknownWord
+abbrev pub printed_number : ℕ → List ℕ → Option ℕ → Result ℕ ScriptWord
+printed_number last word None = Err UnknownWord
+printed_number last word (Some n) = if nat_le n last && pointwise nat_eq word (decimal n) then Ok n else Err UnknownWord
 
 -- the number that the first word prints, and the words behind it
 abbrev pub exact : ℕ → List (List ℕ) → Result (ℕ × List (List ℕ)) ScriptWord
 exact last [] = Err UnknownWord
-exact last (word ∷ words) = and_then (printed last word (number_of word)) (λ n. Ok (n, words))
+exact last (word ∷ words) = and_then (printed_number last word (number_of word)) (λ n. Ok (n, words))
 
 -- the number behind this word, and the words behind it
-abbrev pub tagged : ℕ → List ℕ → List (List ℕ) → Result (ℕ × List (List ℕ)) ScriptWord
-tagged last tag words = and_then (behind tag words) (exact last)
+abbrev pub number_behind_word : ℕ → List ℕ → List (List ℕ) → Result (ℕ × List (List ℕ)) ScriptWord
+number_behind_word last tag words = and_then (behind tag words) (exact last)
 
 -- what was read, where no word is left
 abbrev pub alone : {X : Type 0} → X → List (List ℕ) → Result X ScriptWord
@@ -57,25 +57,25 @@ own_of word =
     else Err UnknownWord))
 
 -- the word behind OWN, and the words behind it
-abbrev pub owned : List (List ℕ) → Result ((Bool × Bool) × List (List ℕ)) ScriptWord
-owned [] = Err UnknownWord
-owned (word ∷ words) = and_then (own_of word) (λ own. Ok (own, words))
+abbrev pub own_and_words : List (List ℕ) → Result ((Bool × Bool) × List (List ℕ)) ScriptWord
+own_and_words [] = Err UnknownWord
+own_and_words (word ∷ words) = and_then (own_of word) (λ own. Ok (own, words))
 
 -- the numbers of a desk, by the words behind COUNTS
 abbrev pub counts_of : List (List ℕ) → Result Reply ScriptWord
 counts_of words =
-    and_then (tagged last_32 (codes "HELD") words) (λ held.
-    and_then (tagged last_32 (codes "LINGERING") held.1) (λ lingering.
-    and_then (tagged last_32 (codes "OPEN") lingering.1) (λ taken.
-    and_then (tagged last_32 (codes "OF") taken.1) (λ free.
+    and_then (number_behind_word last_32 (codes "HELD") words) (λ held.
+    and_then (number_behind_word last_32 (codes "LINGERING") held.1) (λ lingering.
+    and_then (number_behind_word last_32 (codes "OPEN") lingering.1) (λ taken.
+    and_then (number_behind_word last_32 (codes "OF") taken.1) (λ free.
     and_then (behind (codes "OWN") free.1) (λ rest.
-    and_then (owned rest) (λ own.
+    and_then (own_and_words rest) (λ own.
     alone (reply.Counts held.0 lingering.0 taken.0 free.0 own.0.0 own.0.1) own.1))))))
 
 abbrev pub no_seat_of : List (List ℕ) → Result Reply ScriptWord
 no_seat_of words =
-    and_then (tagged last_32 (codes "TAKEN") words) (λ taken.
-    and_then (tagged last_32 (codes "OF") taken.1) (λ free.
+    and_then (number_behind_word last_32 (codes "TAKEN") words) (λ taken.
+    and_then (number_behind_word last_32 (codes "OF") taken.1) (λ free.
     alone (reply.NoSeat taken.0 free.0) free.1))
 
 -- a reply of one word
@@ -94,9 +94,9 @@ abbrev pub reply_by : List ℕ → List (List ℕ) → Result Reply ScriptWord
 reply_by word words =
     if pointwise nat_eq word (codes "GRANTED") then and_then (charge_of words) (λ charge. Ok (reply.Granted charge))
     else (if pointwise nat_eq word (codes "RETAKEN") then and_then (charge_of words) (λ charge. Ok (reply.Retaken charge))
-    else (if pointwise nat_eq word (codes "DENIED") then and_then (tagged last_32 (codes "LINE") words) (λ line. alone (reply.Denied line.0) line.1)
+    else (if pointwise nat_eq word (codes "DENIED") then and_then (number_behind_word last_32 (codes "LINE") words) (λ line. alone (reply.Denied line.0) line.1)
     else (if pointwise nat_eq word (codes "NOSEAT") then no_seat_of words
-    else (if pointwise nat_eq word (codes "LINGERING") then and_then (tagged last_64 (codes "UNTIL") words) (λ until. alone (reply.Lingering until.0) until.1)
+    else (if pointwise nat_eq word (codes "LINGERING") then and_then (number_behind_word last_64 (codes "UNTIL") words) (λ until. alone (reply.Lingering until.0) until.1)
     else (if pointwise nat_eq word (codes "COUNTS") then counts_of words
     else (if pointwise nat_eq word (codes "QUEUED") then and_then (exact last_32 words) (λ position. alone (reply.Queued position.0) position.1)
     else (if pointwise nat_eq word (codes "REREAD") then and_then (exact last_32 words) (λ set. alone (reply.Reread set.0) set.1)

@@ -1,6 +1,6 @@
 //! The lines of a log, read.
 ghost use Rattle.std.specs.Prelude.{◌≡◌, ◌<◌, IfOk};
-ghost use Rattle.lic_text.specs.Left.{worded, words_left};
+ghost use Rattle.lic_text.specs.Left.{worded_line, words_left};
 ghost use Rattle.audit_log.specs.Entries.{fields_of, kind_of, kind_with, logged_at, logged_of, place_of};
 ghost use Rattle.audit_log.specs.Summaries.{is_summary};
 
@@ -133,7 +133,7 @@ fn read_words(words: Words<'_>) -> Result<Logged, ScriptWord>
 /// Whether a line sums up a log and has no entry: its first word is LOG or TALLY. Who reads a whole log passes such
 /// lines over.
 pub fn is_summary(line: &Line<'_>) -> bool
-    ensures { result ≡ is_summary (worded line.now).1 }
+    ensures { result ≡ is_summary (worded_line line.now).1 }
 {
     match line.words().next() {
         Some(word) => word == b"LOG".as_slice() || word == b"TALLY".as_slice(),
@@ -155,7 +155,7 @@ pub fn is_summary(line: &Line<'_>) -> bool
 /// 4. `UnknownWord` where the words behind KIND aren't exactly those of a reply; of KIND REREAD, where they aren't
 ///    REREAD and a number.
 pub fn read_entry(line: &Line<'_>) -> Result<Logged, ScriptFault>
-    ensures read { result ≡ logged_at (worded line.now) }
+    ensures read { result ≡ logged_at (worded_line line.now) }
     ensures fit { IfOk result (λ logged. (logged.entry.moment < MOMENT_END) × (logged.entry.request.party < PARTY_LIMIT)) }
 {
     match read_words(line.words()) {

@@ -2,7 +2,7 @@
 ghost use Rattle.std.specs.Prelude.{◌≡◌, ◌≤◌, ◌^◌, List, ℕ, Bool, Ok, Err, IfOk, MatchResult};
 ghost use Rattle.lic_text.specs.Left.{words_left};
 ghost use Rattle.lic_text.specs.Number.{number_of};
-ghost use Rattle.audit_log.specs.Replies.{alone, bare_of, behind, charge_of, counts_of, exact, no_seat_of, owned, printed, reply_by, reply_of, tagged};
+ghost use Rattle.audit_log.specs.Replies.{alone, bare_of, behind, charge_of, counts_of, exact, no_seat_of, own_and_words, printed_number, reply_by, reply_of, number_behind_word};
 
 use itoa::Buffer;
 use lic_text::{Words, number};
@@ -24,7 +24,7 @@ fn read_tag(words: &mut Words<'_>, tag: &[u8]) -> Result<(), ScriptWord>
 
 /// The number up to the last one of which a word is the printed text.
 fn read_printed(word: &[u8], last: u64) -> Result<u64, ScriptWord>
-    ensures value { result ≡ printed last word.now (number_of word.now) }
+    ensures value { result ≡ printed_number last word.now (number_of word.now) }
     ensures small { IfOk result (λ n. n ≤ last) }
 {
     let mut buffer = Buffer::new();
@@ -45,7 +45,7 @@ fn read_exact(words: &mut Words<'_>, last: u64) -> Result<u64, ScriptWord>
 
 /// Reads a word of a reply, which is to be this one, and a number behind it.
 fn read_tagged(words: &mut Words<'_>, tag: &[u8], last: u64) -> Result<u64, ScriptWord>
-    ensures read { MatchResult result (λ n. tagged last tag.now (words_left words.old) ≡ Ok (n, words_left words.new)) (λ fault. tagged last tag.now (words_left words.old) ≡ Err fault) }
+    ensures read { MatchResult result (λ n. number_behind_word last tag.now (words_left words.old) ≡ Ok (n, words_left words.new)) (λ fault. number_behind_word last tag.now (words_left words.old) ≡ Err fault) }
     ensures small { IfOk result (λ n. n ≤ last) }
 {
     read_tag(words, tag)?;
@@ -81,7 +81,7 @@ fn read_charge(words: Words<'_>) -> Result<Charge, ScriptWord>
 
 /// What a party has, by the word behind OWN: whether it is a told holder, and whether it waits or wasn't told.
 fn read_own(words: &mut Words<'_>) -> Result<(bool, bool), ScriptWord>
-    ensures { MatchResult result (λ own. owned (words_left words.old) ≡ Ok (own, words_left words.new)) (λ fault. owned (words_left words.old) ≡ Err fault) }
+    ensures { MatchResult result (λ own. own_and_words (words_left words.old) ≡ Ok (own, words_left words.new)) (λ fault. own_and_words (words_left words.old) ≡ Err fault) }
 {
     let word = words.next().ok_or(ScriptWord::UnknownWord)?;
     if word == b"1".as_slice() {

@@ -3,7 +3,7 @@ ghost use Rattle.std.specs.Prelude.{◌≡◌, ◌≤◌, [], All, EachIndex, If
 ghost use Rattle.lic_types.specs.declared.limits.TheConstants.{PARTY_LIMIT};
 ghost use Rattle.options_machine.specs.Law.{AreSets};
 ghost use Rattle.options_machine.specs.State.{in_force, opening};
-ghost use Rattle.turn_lock.specs.Passes.{unused};
+ghost use Rattle.turn_lock.specs.Passes.{unused_lock_pass};
 ghost use Rattle.desk_book.specs.Askers.{newcomer};
 ghost use Rattle.desk_book.specs.Standing.{Runs, Stands, law_of};
 
@@ -94,7 +94,7 @@ fn pair(
     requires whole { turns.now.law.parties ≡ turns.now.id.parties }
     requires opens { Runs turns.now.law [] }
     requires long { vec_len views.old ≡ vec_len tickets.old }
-    requires tickets { EachIndex tickets.old.items (λ i. slice_get tickets.old.items i ≡ Some (unused turns.now i)) }
+    requires tickets { EachIndex tickets.old.items (λ i. slice_get tickets.old.items i ≡ Some (unused_lock_pass turns.now i)) }
     requires views { All (λ v. v ≡ turns.now.law.board) views.old.items }
     requires room { (passes.old.items ≡ []) × (vec_len tickets.old ≤ vec_capacity passes.old) }
     ensures empty { (tickets.new.items ≡ []) × (vec_capacity tickets.new ≡ vec_capacity tickets.old) }

@@ -7,7 +7,7 @@ use Rattle.counter.specs.Account.{grants}
 use Rattle.desk_book.specs.declared.end.DeskLog.{DeskLog}
 use Rattle.feature_desk.specs.Closings.{HasLog}
 use Rattle.feature_desk.specs.declared.closing.DeskTally.{DeskTally}
-use Rattle.desk_logs.specs.Text.{lines_with_count, logs_text, numbered}
+use Rattle.desk_logs.specs.Text.{lines_with_count, logs_text, numbered_texts}
 
 -- the log of a pool with this history: its first 4,096 entries, and whether there were more
 abbrev pub log_end : ℕ → List Entry → List ℕ
@@ -19,7 +19,7 @@ tally_end pool history = tally_text pool (length history % 2 ^ 64) (grants histo
 
 -- the logs of pools with these histories, and then their tallies
 abbrev pub ends_text : List (List Entry) → List ℕ
-ends_text histories = numbered log_end 0 histories ++ numbered tally_end 0 histories
+ends_text histories = numbered_texts log_end 0 histories ++ numbered_texts tally_end 0 histories
 
 -- a log and a tally are those of this history
 pub record IsEnd (log : DeskLog) (tally : DeskTally) (history : List Entry) : Type 0 where

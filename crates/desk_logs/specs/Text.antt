@@ -7,13 +7,13 @@ use Rattle.desk_book.specs.declared.end.DeskLog.{DeskLog}
 use Rattle.feature_desk.specs.declared.closing.DeskTally.{DeskTally}
 
 -- texts one behind another, each of them by its number, counted from this one
-abbrev pub numbered : {X : Type 0} → (ℕ → X → List ℕ) → ℕ → List X → List ℕ
-numbered text number [] = []
-numbered text number (x ∷ xs) = text number x ++ numbered text (number + 1) xs
+abbrev pub numbered_texts : {X : Type 0} → (ℕ → X → List ℕ) → ℕ → List X → List ℕ
+numbered_texts text number [] = []
+numbered_texts text number (x ∷ xs) = text number x ++ numbered_texts text (number + 1) xs
 
 -- the lines of entries of a pool, each at its place, the first of them at this place
 abbrev pub entries_from : ℕ → ℕ → List Entry → List ℕ
-entries_from pool place entries = numbered (entry_text pool) place entries
+entries_from pool place entries = numbered_texts (entry_text pool) place entries
 
 -- the lines of these entries, and the line that says how many they are and whether there were more
 abbrev pub lines_with_count : ℕ → List Entry → Bool → List ℕ
@@ -29,4 +29,4 @@ tally_of pool tally = tally_text pool tally.calls tally.grants tally.uses
 
 -- the logs of all pools in their order, and then their tallies
 abbrev pub logs_text : List DeskLog → List DeskTally → List ℕ
-logs_text logs tallies = numbered log_of 0 logs ++ numbered tally_of 0 tallies
+logs_text logs tallies = numbered_texts log_of 0 logs ++ numbered_texts tally_of 0 tallies

@@ -3,7 +3,7 @@ ghost use Rattle.std.specs.Prelude.{◌≡◌, ◌+◌, ◌^◌, ◌≤◌, ◌<
 ghost use Rattle.audit_log.specs.Entries.{entry_text};
 ghost use Rattle.outside.specs.Told.{Wrote};
 ghost use Rattle.desk_logs.specs.Gathered.{Gathers};
-ghost use Rattle.desk_logs.specs.Text.{entries_from, log_of, logs_text, numbered, tally_of};
+ghost use Rattle.desk_logs.specs.Text.{entries_from, log_of, logs_text, numbered_texts, tally_of};
 
 use crate::gather::{flush, gather};
 use audit_log::{write_entry, write_log, write_tally};
@@ -84,7 +84,7 @@ fn put_logs<O: Sink>(
 ) -> Result<(), WriteFailed>
     requires few { length logs.now ≤ 2 ^ 32 }
     requires room { 640 ≤ vec_capacity gathered.old }
-    ensures { Gathers O.held O.faults out.old out.new gathered.old gathered.new (gathered.old.items ++ numbered log_of 0 logs.now) result }
+    ensures { Gathers O.held O.faults out.old out.new gathered.old gathered.new (gathered.old.items ++ numbered_texts log_of 0 logs.now) result }
 {
     for (pool, log) in logs.iter().enumerate() {
         put_log(out, gathered, pool as u32, log)?;
@@ -100,7 +100,7 @@ fn put_tallies<O: Sink>(
 ) -> Result<(), WriteFailed>
     requires few { length tallies.now ≤ 2 ^ 32 }
     requires room { 640 ≤ vec_capacity gathered.old }
-    ensures { Gathers O.held O.faults out.old out.new gathered.old gathered.new (gathered.old.items ++ numbered tally_of 0 tallies.now) result }
+    ensures { Gathers O.held O.faults out.old out.new gathered.old gathered.new (gathered.old.items ++ numbered_texts tally_of 0 tallies.now) result }
 {
     for (pool, tally) in tallies.iter().enumerate() {
         put_tally(out, gathered, pool as u32, tally)?;

@@ -8,7 +8,7 @@ use Rattle.seat_names.specs.declared.turns.Turn.TheVariants as seats
 use Rattle.seat_names.specs.Turns as names
 use Rattle.kex_gate.specs.declared.passes.GateTurn.{GateTurn}
 use Rattle.kex_gate.specs.declared.passes.GateTurn.TheVariants as gate
-use Rattle.kex_gate.specs.Passes.{Gate, GateHeld, Guest, Way, seats_of, visited}
+use Rattle.kex_gate.specs.Passes.{Gate, GateHeld, Guest, Way, seats_of, guest_with_visit}
 use Rattle.kex_gate.specs.Turns.{Met, fast_in_turn, guest_in_turn, met_in_turn, turn_in}
 use Rattle.desk_seats.specs.declared.turns.SeatTurn.{SeatTurn}
 use Rattle.desk_seats.specs.Passes.{SeatHeld, SeatPass, gate_held, guest_pass, plain_pass, way_held, way_pass, way_through}
@@ -68,7 +68,7 @@ begins_gated p r u g x is same own guest met few many at =
     subst (λ (z : SeatPass). Begins z r) same (subst (λ (z : SeatTurn). Begins (guest_pass g) z) (sym is) begun)
 
 -- a session that left
-module _ (h : SeatHeld) (k : GateHeld) (q : Guest) (same : gate_held k ≡ h) (left : q ≡ visited k.guest k.held.card.number k.fast) where
+module _ (h : SeatHeld) (k : GateHeld) (q : Guest) (same : gate_held k ≡ h) (left : q ≡ guest_with_visit k.guest k.held.card.number k.fast) where
   pub leaves_got : seats_of q.visits ≡ h.pass.got
   leaves_got = ap (λ (z : Guest). seats_of z.visits) left ∙ (seats_of-append k.guest.visits (record { seat = k.held.card.number; fast = k.fast } ∷ []) ∙ ap (λ (z : SeatHeld). z.pass.got) same)
 

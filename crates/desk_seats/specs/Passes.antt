@@ -108,8 +108,8 @@ first_lane None t p = ungated
 first_lane (Some id) t p = outside (fresh (record { id = id; seats = t }) p)
 
 -- a pass that was never used
-abbrev pub unused : SeatsView → ℕ → SeatPass
-unused t p = record { table = t; number = p; place = Out; firsts = 0; spins = 0; got = []; lane = first_lane t.gate (table_of t) p }
+abbrev pub unused_seat_pass : SeatsView → ℕ → SeatPass
+unused_seat_pass t p = record { table = t; number = p; place = Out; firsts = 0; spins = 0; got = []; lane = first_lane t.gate (table_of t) p }
 
 -- the number that is held at a place
 abbrev pub held_at : Place → Option ℕ

@@ -12,7 +12,7 @@ use Rattle.seat_names.specs.Ways.{Leads}
 use Rattle.kex_gate.specs.declared.passes.GateTurn.{GateTurn}
 use Rattle.kex_gate.specs.declared.passes.GateTurn.TheVariants as gate
 use Rattle.kex_gate.specs.declared.view.Visit.{Visit}
-use Rattle.kex_gate.specs.Passes.{Guest, Way, visited}
+use Rattle.kex_gate.specs.Passes.{Guest, Way, guest_with_visit}
 use Rattle.kex_gate.specs.Turns.{Met, fast_in_turn, guest_in_turn, met_in_turn, turn_in}
 use Rattle.desk_seats.specs.declared.turns.SeatTurn.{SeatTurn}
 use Rattle.desk_seats.specs.declared.turns.SeatTurn.TheVariants.{Again, Through}
@@ -91,4 +91,4 @@ pub record Enters (p : SeatPass) (h : SeatHeld) : Type 0 where
 
 -- a party gave its seat back, and behind a gate the seat is the last that it had, by the way that it came
 pub record Leaves (h : SeatHeld) (q : SeatPass) : Type 0 where
-  pub gated : (id : TableId) → h.pass.table.gate ≡ Some id → (w : Way) × (h.pass.lane ≡ inside w) × (q ≡ guest_pass (visited w.guest h.card.number w.fast))
+  pub gated : (id : TableId) → h.pass.table.gate ≡ Some id → (w : Way) × (h.pass.lane ≡ inside w) × (q ≡ guest_pass (guest_with_visit w.guest h.card.number w.fast))

@@ -3,7 +3,7 @@ ghost use Rattle.std.specs.Prelude.{◌≡◌, ◌+◌, ◌*◌, ◌<◌, ◌≤
 ghost use Rattle.kex_core.specs.declared.limits.TheConstants.{PARTY_LIMIT};
 ghost use Rattle.kex_net.specs.Gates.{IsGated};
 ghost use Rattle.desk_seats.specs.Views.{parties_of};
-ghost use Rattle.desk_seats.specs.Passes.{guest_pass, plain_pass, unused};
+ghost use Rattle.desk_seats.specs.Passes.{guest_pass, plain_pass, unused_seat_pass};
 
 use crate::gathering::{Gathered, SeatGathering};
 use crate::passes::{OutKind, SeatOut};
@@ -26,7 +26,7 @@ impl DeskSeats {
     ) -> Result<(DeskSeats, Vec<SeatOut>, SeatGathering), NoMemory>
         ensures net { IfOk result (λ r. (r.0.net ≡ net) × (r.0.gate ≡ None)) }
         ensures count { IfOk result (λ r. vec_len r.1 ≡ net.parties) }
-        ensures passes { IfOk result (λ r. EachIndex r.1.items (λ i. slice_get r.1.items i ≡ Some (unused r.0 i))) }
+        ensures passes { IfOk result (λ r. EachIndex r.1.items (λ i. slice_get r.1.items i ≡ Some (unused_seat_pass r.0 i))) }
         ensures own { IfOk result (λ r. All (λ p. p.table ≡ r.0) r.1.items) }
         ensures gathering { IfOk result (λ r. (r.2.table ≡ r.0) × (r.2.numbers ≡ []) × (r.2.got ≡ [])) }
     {
@@ -59,7 +59,7 @@ impl DeskSeats {
         ensures net { IfOk result (λ r. IsGated n k r.0.net × IsSome r.0.gate) }
         ensures parties { IfOk result (λ r. (parties_of r.0 ≡ n) × (r.0.net.width ≡ min k n)) }
         ensures count { IfOk result (λ r. vec_len r.1 ≡ n) }
-        ensures passes { IfOk result (λ r. EachIndex r.1.items (λ i. slice_get r.1.items i ≡ Some (unused r.0 i))) }
+        ensures passes { IfOk result (λ r. EachIndex r.1.items (λ i. slice_get r.1.items i ≡ Some (unused_seat_pass r.0 i))) }
         ensures own { IfOk result (λ r. All (λ p. p.table ≡ r.0) r.1.items) }
         ensures gathering { IfOk result (λ r. (r.2.table ≡ r.0) × (r.2.numbers ≡ []) × (r.2.got ≡ [])) }
     {

@@ -1,6 +1,6 @@
 -- What a desk and its passes are to whoever has them.
 use Rattle.std.specs.Prelude.{◌≡◌, ℕ, Bool}
-use Rattle.desk_seats.specs.Passes.{SeatPass, unused}
+use Rattle.desk_seats.specs.Passes.{SeatPass, unused_seat_pass}
 use Rattle.desk_seats.specs.Views.{SeatsView}
 use Rattle.turn_lock.specs.Passes.{Lock}
 use Rattle.counter.specs.declared.counter.Asked.{Asked}
@@ -37,4 +37,4 @@ pub record IsOf (s : Sitter) (d : DeskView) : Type 0 where
 
 -- a party that has asked nothing yet
 abbrev pub newcomer : DeskView → ℕ → Sitter
-newcomer d p = record { ticket = book.newcomer d.lock p; seat = unused d.seats p }
+newcomer d p = record { ticket = book.newcomer d.lock p; seat = unused_seat_pass d.seats p }

@@ -2,7 +2,7 @@
 ghost use Rattle.std.specs.Prelude.{◌≡◌, ◌+◌, ◌*◌, ◌<◌, ◌≤◌, [], ◌∷◌, min, All, IfOk, IsSome, EachIndex, vec_len, vec_capacity, slice_get, Some, None};
 ghost use Rattle.lic_types.specs.declared.limits.TheConstants.{PARTY_LIMIT};
 ghost use Rattle.kex_net.specs.Gates.{IsGated};
-ghost use Rattle.desk_seats.specs.Passes.{unused};
+ghost use Rattle.desk_seats.specs.Passes.{unused_seat_pass};
 ghost use Rattle.desk_seats.specs.Views.{parties_of};
 ghost use Rattle.options_machine.specs.Law.{AreSets};
 ghost use Rattle.options_machine.specs.Rules.{IsSound};
@@ -112,7 +112,7 @@ impl Desk {
     ) -> Result<(Desk, Vec<DeskPass>, DeskKeeper), NoMemory>
         requires sets { AreSets sets.items (in_force sets.items opening).count }
         requires parties { (1 ≤ parties) × (parties ≤ PARTY_LIMIT) × (parties_of seats ≡ parties) }
-        requires outs { (vec_len outs ≡ parties) × EachIndex outs.items (λ i. slice_get outs.items i ≡ Some (unused seats i)) }
+        requires outs { (vec_len outs ≡ parties) × EachIndex outs.items (λ i. slice_get outs.items i ≡ Some (unused_seat_pass seats i)) }
         requires gathering { (gathering.table ≡ seats) × (gathering.numbers ≡ []) × (gathering.got ≡ []) }
         ensures seats { IfOk result (λ made. made.0.seats ≡ seats) }
         ensures law { IfOk result (λ made. (made.0.lock.id.parties ≡ parties) × (made.0.lock.law.parties ≡ parties) × (made.0.lock.law.sets ≡ sets.items)) }

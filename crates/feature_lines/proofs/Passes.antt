@@ -15,7 +15,7 @@ use Rattle.lic_types.specs.declared.note.NoteKind.TheVariants.{SecondFeature, No
 use Rattle.feature_lines.specs.Licence.{Contents, Judged, count_fault, counted_lines, counted_in, fault_in, fault_told, first_some, has_line, is_feature_of, is_second, licence_in, line_key, note_in, notes_of, pools_of, some_or, total, unless_fault, with_before}
 use Rattle.feature_lines.specs.Line.{within_limit, feature_of, line_with_terms, said_or_fault, keyword_of, or_fault, said_by, said_of, terms_of, with_word}
 use Rattle.lic_types.specs.NameSets.{has_name, with_name}
-use Rattle.feature_lines.specs.Steps.{Sofar, pools_with_line, added_to, blank, counted_or_locked, noted, passed, pools_with_more, stepped, after_feature, with_pools}
+use Rattle.feature_lines.specs.Steps.{Sofar, pools_with_line, added_to, blank, counted_or_locked, sofar_with_note, sofar_after_lines, pools_with_more, sofar_after_line, after_feature, with_pools}
 use Rattle.feature_lines.specs.declared.fault.LicenceFault.{LicenceFault}
 use Rattle.feature_lines.specs.declared.fault.LicenceFault.TheVariants.{BadCount, TooManyPools}
 use Rattle.feature_lines.specs.declared.line.FeatureLine.{FeatureLine}
@@ -136,7 +136,7 @@ summed before s f (Some fault) is first some notes names = fault_by before f fal
 
 first_when : (before : List Judged) (s : Sofar) (f : FeatureLine) (zero_count : Bool) → (eqb f.count 0) ≡ zero_count → is_second before f ≡ false → f.count ≤ 65535
     → s.pools ≡ pools_of (counted_lines before) → s.notes ≡ notes_of before → KnowsNames (before ++ Ok (Feature f) ∷ []) s
-    → Says before (Ok (Feature f)) (cond zero_count (Ok (noted f.line NodeLocked s)) (with_pools s (pools_with_line f s.pools)))
+    → Says before (Ok (Feature f)) (cond zero_count (Ok (sofar_with_note f.line NodeLocked s)) (with_pools s (pools_with_line f s.pools)))
 first_when before s f true is first small pools notes names = (
   fault_by before f false true first is,
   record {
@@ -166,7 +166,7 @@ known_already before f name true is known =
 known_already before f name false is known = sym (or_none _)
 
 feature_when : (before : List Judged) (s : Sofar) (f : FeatureLine) (is_feature has : Bool) → f.is_feature ≡ is_feature → list_any (is_feature_of f.name) before ≡ has → IsKept before s → f.count ≤ 65535
-    → Says before (Ok (Feature f)) (cond is_feature (cond has (Ok (noted f.line SecondFeature s)) (counted_or_locked (record s { features = with_name s.features f.name }) f)) (counted_or_locked s f))
+    → Says before (Ok (Feature f)) (cond is_feature (cond has (Ok (sofar_with_note f.line SecondFeature s)) (counted_or_locked (record s { features = with_name s.features f.name }) f)) (counted_or_locked s f))
 feature_when before s f true true p q kept small =
     let second : is_second before f ≡ true = ap (λ (b : Bool). b && list_any (is_feature_of f.name) before) p ∙ q in (
       fault_by before f true _ second refl,
@@ -187,12 +187,12 @@ feature_when before s f false has p q kept small =
 
 feature_says : (before : List Judged) (s : Sofar) (f : FeatureLine) → IsKept before s → f.count ≤ 65535 → Says before (Ok (Feature f)) (after_feature s f)
 feature_says before s f kept small =
-    subst (λ (b : Bool). Says before (Ok (Feature f)) (cond f.is_feature (cond b (Ok (noted f.line SecondFeature s)) (counted_or_locked (record s { features = with_name s.features f.name }) f)) (counted_or_locked s f))) (sym (kept.features f.name))
+    subst (λ (b : Bool). Says before (Ok (Feature f)) (cond f.is_feature (cond b (Ok (sofar_with_note f.line SecondFeature s)) (counted_or_locked (record s { features = with_name s.features f.name }) f)) (counted_or_locked s f))) (sym (kept.features f.name))
     (feature_when before s f f.is_feature (list_any (is_feature_of f.name) before) refl refl kept small)
 
 -- ---- any line
 
-step_says : (before : List Judged) (s : Sofar) (line : Judged) → IsKept before s → IsSmall line → Says before line (stepped s line)
+step_says : (before : List Judged) (s : Sofar) (line : Judged) → IsKept before s → IsSmall line → Says before line (sofar_after_line s line)
 step_says before s (Ok (Feature f)) kept small = feature_says before s f kept small
 step_says before s (Ok Nothing) kept small = (
   refl,
@@ -224,13 +224,13 @@ contents_of lines = record { pools = pools_of (counted_lines lines); notes = not
 abbrev first_behind : List Judged → List Judged → Option LicenceFault
 first_behind before lines = first_some (λ (at : List Judged × Judged). fault_in at.0 at.1) (with_before before lines)
 
-pub passed_fault : (lines : List Judged) (fault : LicenceFault) → passed (Err fault) lines ≡ Err fault
+pub passed_fault : (lines : List Judged) (fault : LicenceFault) → sofar_after_lines (Err fault) lines ≡ Err fault
 passed_fault [] fault = refl
 passed_fault (line ∷ lines) fault = passed_fault lines fault
 
 pass_on : (before : List Judged) (line : Judged) (lines : List Judged) (r : Result Sofar LicenceFault) → Says before line r
-    → ((s : Sofar) → IsKept (before ++ line ∷ []) s → ended (passed (Ok s) lines) ≡ unless_fault (first_behind (before ++ line ∷ []) lines) (contents_of ((before ++ line ∷ []) ++ lines)))
-    → ended (passed r lines) ≡ unless_fault (some_or (fault_in before line) (first_behind (before ++ line ∷ []) lines)) (contents_of (before ++ line ∷ lines))
+    → ((s : Sofar) → IsKept (before ++ line ∷ []) s → ended (sofar_after_lines (Ok s) lines) ≡ unless_fault (first_behind (before ++ line ∷ []) lines) (contents_of ((before ++ line ∷ []) ++ lines)))
+    → ended (sofar_after_lines r lines) ≡ unless_fault (some_or (fault_in before line) (first_behind (before ++ line ∷ []) lines)) (contents_of (before ++ line ∷ lines))
 pass_on before line lines (Ok s) says rest =
     rest s says.1
     ∙ (ap (λ (ls : List Judged). unless_fault (first_behind (before ++ line ∷ []) lines) (contents_of ls)) (append_assoc before (line ∷ []) lines)
@@ -239,20 +239,20 @@ pass_on before line lines (Err fault) says rest =
     ap ended (passed_fault lines fault)
     ∙ ap (λ (o : Option LicenceFault). unless_fault (some_or o (first_behind (before ++ line ∷ []) lines)) (contents_of (before ++ line ∷ lines))) (sym says)
 
-passes : (lines before : List Judged) (s : Sofar) → IsKept before s → AreSmall lines → ended (passed (Ok s) lines) ≡ unless_fault (first_behind before lines) (contents_of (before ++ lines))
+passes : (lines before : List Judged) (s : Sofar) → IsKept before s → AreSmall lines → ended (sofar_after_lines (Ok s) lines) ≡ unless_fault (first_behind before lines) (contents_of (before ++ lines))
 passes [] before s kept small =
     let same : before ≡ before ++ [] = sym (append-nil before) in
     ap Ok (λ i. record { pools = kept.pools i; notes = kept.notes i }) ∙ ap (λ (ls : List Judged). Ok (contents_of ls)) same
-passes (line ∷ lines) before s kept small = pass_on before line lines (stepped s line) (step_says before s line kept small.0) (λ t known. passes lines (before ++ line ∷ []) t known small.1)
+passes (line ∷ lines) before s kept small = pass_on before line lines (sofar_after_line s line) (step_says before s line kept small.0) (λ t known. passes lines (before ++ line ∷ []) t known small.1)
 
 -- the pass over all lines comes to the licence that they say
-pub pass_reads : (lines : List Judged) → AreSmall lines → ended (passed (Ok blank) lines) ≡ licence_in lines
+pub pass_reads : (lines : List Judged) → AreSmall lines → ended (sofar_after_lines (Ok blank) lines) ≡ licence_in lines
 pass_reads lines small = passes lines [] blank (record { pools = refl; notes = refl; features = λ name. refl }) small
 
 -- a fault of the next line is the licence's
-pub pass_refuses : (s : Sofar) (line : Judged) (lines all : List Judged) (fault : LicenceFault) → AreSmall all → passed (Ok s) (line ∷ lines) ≡ passed (Ok blank) all → IsFaultOf fault_told (stepped s line) fault → IsFaultOf fault_told (licence_in all) fault
+pub pass_refuses : (s : Sofar) (line : Judged) (lines all : List Judged) (fault : LicenceFault) → AreSmall all → sofar_after_lines (Ok s) (line ∷ lines) ≡ sofar_after_lines (Ok blank) all → IsFaultOf fault_told (sofar_after_line s line) fault → IsFaultOf fault_told (licence_in all) fault
 pass_refuses s line lines all fault small same is =
-    fault_too fault_told (stepped s line) (licence_in all) fault (λ f e. sym (pass_reads all small) ∙ ap ended (sym same ∙ (ap (λ (r : Result Sofar LicenceFault). passed r lines) e ∙ passed_fault lines f))) is
+    fault_too fault_told (sofar_after_line s line) (licence_in all) fault (λ f e. sym (pass_reads all small) ∙ ap ended (sym same ∙ (ap (λ (r : Result Sofar LicenceFault). sofar_after_lines r lines) e ∙ passed_fault lines f))) is
 
 -- ---- counts are small
 

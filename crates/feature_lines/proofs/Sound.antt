@@ -4,7 +4,7 @@ use Rattle.std.proofs.lemmas.Bool.{ltb-true, ltb-false, or_parts}
 use Rattle.std.specs.List.{find, list_all}
 use Rattle.std.proofs.lemmas.List.Folds.{list_any-append}
 use Rattle.feature_lines.specs.Licence.{ArePools, Judged, PoolKey, are_apart, has_licences, has_pool, line_key, pool_key, pool_with, same_key}
-use Rattle.feature_lines.specs.Steps.{Sofar, pools_with_line, added_to, counted_or_locked, passed, pools_with_more, stepped, with_more, with_pools}
+use Rattle.feature_lines.specs.Steps.{Sofar, pools_with_line, added_to, counted_or_locked, sofar_after_lines, pools_with_more, sofar_after_line, with_more, with_pools}
 use Rattle.feature_lines.specs.declared.fault.LicenceFault.{LicenceFault}
 use Rattle.feature_lines.specs.declared.line.FeatureLine.{FeatureLine}
 use Rattle.feature_lines.specs.declared.line.Said.TheVariants.{Nothing, NotServed as Unserved, Feature}
@@ -116,17 +116,17 @@ feature_sound s t u f true true few p q r = q
 feature_sound s t u f true false few p q r = count_sound u _ f _ refl few r r
 feature_sound s t u f false b few p q r = count_sound s _ f _ refl few p p
 
-step_sound : (s : Sofar) (line : Judged) → IsSmall line → ArePools s.pools → IsSound (stepped s line)
+step_sound : (s : Sofar) (line : Judged) → IsSmall line → ArePools s.pools → IsSound (sofar_after_line s line)
 step_sound s (Ok (Feature f)) few sound = feature_sound s _ _ f f.is_feature _ few sound sound sound
 step_sound s (Ok Nothing) few sound = sound
 step_sound s (Ok (Unserved line)) few sound = sound
 step_sound s (Err fault) few sound = tt
 
 -- what holds of the pools holds to the end
-pub pass_sound : (lines : List Judged) (r : Result Sofar LicenceFault) → AreSmall lines → IsSound r → IsSound (passed r lines)
+pub pass_sound : (lines : List Judged) (r : Result Sofar LicenceFault) → AreSmall lines → IsSound r → IsSound (sofar_after_lines r lines)
 pass_sound [] (Ok s) small sound = sound
 pass_sound [] (Err fault) small sound = tt
-pass_sound (line ∷ lines) (Ok s) small sound = pass_sound lines (stepped s line) small.1 (step_sound s line small.0 sound)
+pass_sound (line ∷ lines) (Ok s) small sound = pass_sound lines (sofar_after_line s line) small.1 (step_sound s line small.0 sound)
 pass_sound (line ∷ lines) (Err fault) small sound = pass_sound lines (Err fault) small.1 tt
 
 -- the pools of no line

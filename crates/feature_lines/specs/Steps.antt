@@ -40,32 +40,32 @@ added_to f pools (Some p) = if nat_lt LICENCE_LIMIT (p.count + f.count) then Err
 abbrev pub pools_with_line : FeatureLine → List Pool → Result (List Pool) LicenceFault
 pools_with_line f pools = added_to f pools (find (λ p. same_key (line_key f) (pool_key p)) pools)
 
-abbrev pub noted : ℕ → NoteKind → Sofar → Sofar
-noted line kind s = record s { notes = s.notes ++ (record { line = line; kind = kind }) ∷ [] }
+abbrev pub sofar_with_note : ℕ → NoteKind → Sofar → Sofar
+sofar_with_note line kind s = record s { notes = s.notes ++ (record { line = line; kind = kind }) ∷ [] }
 
 abbrev pub with_pools : Sofar → Result (List Pool) LicenceFault → Result Sofar LicenceFault
 with_pools s (Ok pools) = Ok (record s { pools = pools })
 with_pools s (Err fault) = Err fault
 
 abbrev pub counted_or_locked : Sofar → FeatureLine → Result Sofar LicenceFault
-counted_or_locked s f = if f.count == 0 then Ok (noted f.line NodeLocked s) else with_pools s (pools_with_line f s.pools)
+counted_or_locked s f = if f.count == 0 then Ok (sofar_with_note f.line NodeLocked s) else with_pools s (pools_with_line f s.pools)
 
 abbrev pub after_feature : Sofar → FeatureLine → Result Sofar LicenceFault
 after_feature s f =
     if f.is_feature
-    then (if has_name f.name s.features then Ok (noted f.line SecondFeature s) else counted_or_locked (record s { features = with_name s.features f.name }) f)
+    then (if has_name f.name s.features then Ok (sofar_with_note f.line SecondFeature s) else counted_or_locked (record s { features = with_name s.features f.name }) f)
     else counted_or_locked s f
 
 -- the next line is taken
-abbrev pub stepped : Sofar → Judged → Result Sofar LicenceFault
-stepped s (Ok (Feature f)) = after_feature s f
-stepped s (Ok Nothing) = Ok s
-stepped s (Ok (Unserved line)) = Ok (noted line NotServed s)
-stepped s (Err fault) = Err fault
+abbrev pub sofar_after_line : Sofar → Judged → Result Sofar LicenceFault
+sofar_after_line s (Ok (Feature f)) = after_feature s f
+sofar_after_line s (Ok Nothing) = Ok s
+sofar_after_line s (Ok (Unserved line)) = Ok (sofar_with_note line NotServed s)
+sofar_after_line s (Err fault) = Err fault
 
 -- the lines are taken one after another
-abbrev pub passed : Result Sofar LicenceFault → List Judged → Result Sofar LicenceFault
-passed (Err fault) [] = Err fault
-passed (Ok s) [] = Ok s
-passed (Err fault) (line ∷ lines) = passed (Err fault) lines
-passed (Ok s) (line ∷ lines) = passed (stepped s line) lines
+abbrev pub sofar_after_lines : Result Sofar LicenceFault → List Judged → Result Sofar LicenceFault
+sofar_after_lines (Err fault) [] = Err fault
+sofar_after_lines (Ok s) [] = Ok s
+sofar_after_lines (Err fault) (line ∷ lines) = sofar_after_lines (Err fault) lines
+sofar_after_lines (Ok s) (line ∷ lines) = sofar_after_lines (sofar_after_line s line) lines

@@ -4,7 +4,7 @@ ghost use Rattle.std.specs.List.{position_from};
 ghost use Rattle.lic_text.specs.Reads.{IsFaultOf};
 ghost use Rattle.feature_lines.specs.Draft.{sofar_of};
 ghost use Rattle.feature_lines.specs.Licence.{date_of, fault_told, line_key, pool_key, pool_with, same_date, same_key};
-ghost use Rattle.feature_lines.specs.Steps.{pools_with_line, counted_or_locked, noted, stepped, after_feature};
+ghost use Rattle.feature_lines.specs.Steps.{pools_with_line, counted_or_locked, sofar_with_note, sofar_after_line, after_feature};
 
 use crate::fault::LicenceFault;
 use crate::line::{FeatureLine, Said};
@@ -93,7 +93,7 @@ fn add(pools: &mut Vec<Pool>, feature: &FeatureLine) -> Result<(), LicenceFault>
 
 /// Notes something of a line.
 fn note(draft: &mut Draft, line: u32, kind: NoteKind) -> Result<(), LicenceFault>
-    ensures ok { OnOk result (sofar_of draft.new ≡ noted line kind (sofar_of draft.old)) }
+    ensures ok { OnOk result (sofar_of draft.new ≡ sofar_with_note line kind (sofar_of draft.old)) }
     ensures err { IfErr result (λ fault. fault ≡ NoMemory) }
 {
     draft.notes.push(Note { line, kind })?;
@@ -127,8 +127,8 @@ fn take_feature(draft: &mut Draft, feature: &FeatureLine) -> Result<(), LicenceF
 
 /// Takes what the next line says.
 pub(crate) fn take(draft: &mut Draft, said: &Said) -> Result<(), LicenceFault>
-    ensures ok { OnOk result (stepped (sofar_of draft.old) (Ok said.now) ≡ Ok (sofar_of draft.new)) }
-    ensures err { IfErr result (IsFaultOf fault_told (stepped (sofar_of draft.old) (Ok said.now))) }
+    ensures ok { OnOk result (sofar_after_line (sofar_of draft.old) (Ok said.now) ≡ Ok (sofar_of draft.new)) }
+    ensures err { IfErr result (IsFaultOf fault_told (sofar_after_line (sofar_of draft.old) (Ok said.now))) }
 {
     match said {
         Said::Nothing => Ok(()),

@@ -4,7 +4,7 @@ ghost use Rattle.lic_text.specs.LinesLeft.{item_view};
 ghost use Rattle.lic_text.specs.Reads.{IsFaultOf, Reads};
 ghost use Rattle.feature_lines.specs.Draft.{sofar_of};
 ghost use Rattle.feature_lines.specs.Line.{said_or_fault};
-ghost use Rattle.feature_lines.specs.Steps.{stepped};
+ghost use Rattle.feature_lines.specs.Steps.{sofar_after_line};
 ghost use Rattle.feature_lines.specs.Licence.{are_apart, fault_told, has_licences, licence_of};
 ghost use Rattle.feature_lines.specs.Route.{IsThere, is_new_enough, route};
 ghost use Rattle.feature_lines.specs.declared.route.Found.TheVariants.{Unknown};
@@ -70,8 +70,8 @@ impl Licence {
 
 /// Takes the next line.
 fn take_line(draft: &mut Draft, line: Result<Line<'_>, TextFault>) -> Result<(), LicenceFault>
-    ensures ok { OnOk result (stepped (sofar_of draft.old) (said_or_fault (item_view line.entry)) ≡ Ok (sofar_of draft.new)) }
-    ensures err { IfErr result (IsFaultOf fault_told (stepped (sofar_of draft.old) (said_or_fault (item_view line.entry)))) }
+    ensures ok { OnOk result (sofar_after_line (sofar_of draft.old) (said_or_fault (item_view line.entry)) ≡ Ok (sofar_of draft.new)) }
+    ensures err { IfErr result (IsFaultOf fault_told (sofar_after_line (sofar_of draft.old) (said_or_fault (item_view line.entry)))) }
 {
     let said = read_line(line)?;
     take(draft, &said)

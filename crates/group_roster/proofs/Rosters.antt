@@ -16,7 +16,7 @@ use Rattle.std.specs.Ordering.{bool_cmp, is_eq, is_lt, nat_cmp, ordering_index, 
 use Rattle.std.specs.declared.cmp.Ordering.{Ordering}
 use Rattle.std.specs.declared.cmp.Ordering.TheVariants.{Less, Equal, Greater}
 use Rattle.lic_types.specs.Groups.{GroupLine, same_name}
-use Rattle.group_roster.specs.Listings.{ListingOf, group_print, listed, listing_cmp, print_after, print_of}
+use Rattle.group_roster.specs.Listings.{ListingOf, group_print, member_listing, listing_cmp, print_after, print_of}
 use Rattle.group_roster.specs.Rosters.{IsInOrder, listing_at, listing_in, lists, memberships, memberships_of}
 use Rattle.group_roster.specs.declared.roster.Membership.{Membership}
 
@@ -62,7 +62,7 @@ needless a b false h = sym (none_of (is_eq (nat_cmp a b)))
 -- the memberships that say a member of a group
 module _ (groups : List GroupLine) (h : Bool) (name member : List ℕ) where
   abbrev says : Membership → Bool
-  says m = is_eq (listing_cmp (listing_at groups m) (listed h name member))
+  says m = is_eq (listing_cmp (listing_at groups m) (member_listing h name member))
 
   -- whether a line is of the group: a GROUP line of the name, or, where h, a HOST_GROUP line
   abbrev is_of : GroupLine → Bool
@@ -100,7 +100,7 @@ module _ (groups : List GroupLine) (h : Bool) (name member : List ℕ) where
 
   -- a membership that says what is sought
   same_listing : (m : List ℕ) (g : GroupLine)
-      → is_eq (listing_cmp (record { print = print_after (group_print g.of_hosts g.name) m; member = m; of_hosts = g.of_hosts; group = g.name }) (listed h name member)) ≡ (same_name member m && is_of g)
+      → is_eq (listing_cmp (record { print = print_after (group_print g.of_hosts g.name) m; member = m; of_hosts = g.of_hosts; group = g.name }) (member_listing h name member)) ≡ (same_name member m && is_of g)
   same_listing m g =
       is_eq-then (nat_cmp (print_after (group_print g.of_hosts g.name) m) (print_of h name member)) (ordering_then (slice_cmp nat_cmp m member) (ordering_then (bool_cmp g.of_hosts h) (slice_cmp nat_cmp g.name name)))
       ∙ ap (λ (b : Bool). is_eq (nat_cmp (print_after (group_print g.of_hosts g.name) m) (print_of h name member)) && b) (same_names m g)
@@ -115,8 +115,8 @@ module _ (groups : List GroupLine) (h : Bool) (name member : List ℕ) where
       let others : Bool = list_any says (memberships_of n (group_print g.of_hosts g.name) (k + 1) ms) in
       let there : slice_get g.members k ≡ Some m = subst (λ (i : ℕ). slice_get g.members i ≡ Some m) {x = k + 0} {y = k} (omega arith) (f 0) in
       let next : (j : ℕ) → slice_get g.members (k + 1 + j) ≡ slice_get ms j = λ j. subst (λ (i : ℕ). slice_get g.members i ≡ slice_get ms j) {x = k + suc j} {y = k + 1 + j} (omega arith) (f (suc j)) in
-      ap (λ (o : Option GroupLine). is_eq (listing_cmp (listing_in print k o) (listed h name member)) || others) e
-      ∙ ap (λ (o : Option (List ℕ)). is_eq (listing_cmp (record { print = print; member = unwrap_or o []; of_hosts = g.of_hosts; group = g.name }) (listed h name member)) || others) there
+      ap (λ (o : Option GroupLine). is_eq (listing_cmp (listing_in print k o) (member_listing h name member)) || others) e
+      ∙ ap (λ (o : Option (List ℕ)). is_eq (listing_cmp (record { print = print; member = unwrap_or o []; of_hosts = g.of_hosts; group = g.name }) (member_listing h name member)) || others) there
       ∙ ap (λ (b : Bool). b || others) (same_listing m g)
       ∙ ap (λ (b : Bool). (same_name member m && is_of g) || b) (of_line n g e (k + 1) ms next)
       ∙ one_more (same_name member m) (is_of g) (list_any (same_name member) ms)
@@ -157,7 +157,7 @@ sorted_as groups gs order ms e f h =
     let Q : List Membership → Type 0 = λ m. IsSortedBy (λ (a b : Membership). is_lt (listing_cmp (listing_at groups a) (listing_at groups b))) m in
     subst P (sym e) (subst Q (sym f) h.sorted)
 
-pub lists_as : (groups gs seen : List GroupLine) (order ms : List Membership) (l : ListingOf) (h : Bool) (name member : List ℕ) (b : Bool) → gs ≡ groups → ms ≡ order → groups ≡ seen → l ≡ listed h name member
+pub lists_as : (groups gs seen : List GroupLine) (order ms : List Membership) (l : ListingOf) (h : Bool) (name member : List ℕ) (b : Bool) → gs ≡ groups → ms ≡ order → groups ≡ seen → l ≡ member_listing h name member
     → IsInOrder groups order → b ≡ list_any (λ (m : Membership). is_eq (listing_cmp (listing_at gs m) l)) ms → b ≡ list_any (lists h name member) seen
 lists_as groups gs seen order ms l h name member b e f v s kept found =
     found

@@ -25,8 +25,8 @@ pub record ListingOf : Type 0 where
   pub group : List ℕ
 
 -- that a group has a member
-abbrev pub listed : Bool → List ℕ → List ℕ → ListingOf
-listed of_hosts group member = record { print = print_of of_hosts group member; member = member; of_hosts = of_hosts; group = group }
+abbrev pub member_listing : Bool → List ℕ → List ℕ → ListingOf
+member_listing of_hosts group member = record { print = print_of of_hosts group member; member = member; of_hosts = of_hosts; group = group }
 
 -- the order of listings: by their prints, and those of one print by the member's name, users before hosts, and then by the group's name
 abbrev pub listing_cmp : ListingOf → ListingOf → Ordering

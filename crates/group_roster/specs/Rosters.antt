@@ -3,7 +3,7 @@ use Rattle.std.specs.List.{list_any}
 use Rattle.std.specs.List.Sorted.{IsSortedBy}
 use Rattle.std.specs.Ordering.{is_eq, is_lt}
 use Rattle.lic_types.specs.Groups.{GroupLine, same_name}
-use Rattle.group_roster.specs.Listings.{ListingOf, group_print, listed, listing_cmp, print_after}
+use Rattle.group_roster.specs.Listings.{ListingOf, group_print, member_listing, listing_cmp, print_after}
 use Rattle.group_roster.specs.declared.roster.Membership.{Membership}
 
 -- what the member at a place of a group line is listed as, with this print
@@ -33,5 +33,5 @@ lists false name member g = not g.of_hosts && same_name g.name name && list_any 
 -- the memberships of all groups, in the order of what they say: one says what is sought exactly where a line lists it
 pub record IsInOrder (groups : List GroupLine) (order : List Membership) : Type 0 where
   pub all : (of_hosts : Bool) (group member : List ℕ)
-      → list_any (λ (m : Membership). is_eq (listing_cmp (listing_at groups m) (listed of_hosts group member))) order ≡ list_any (lists of_hosts group member) groups
+      → list_any (λ (m : Membership). is_eq (listing_cmp (listing_at groups m) (member_listing of_hosts group member))) order ≡ list_any (lists of_hosts group member) groups
   pub sorted : IsSortedBy (λ (a b : Membership). is_lt (listing_cmp (listing_at groups a) (listing_at groups b))) order

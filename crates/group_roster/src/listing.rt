@@ -1,6 +1,6 @@
 //! What a membership says, and the order in which memberships are looked up.
 ghost use Rattle.std.specs.Prelude.{◌≡◌};
-ghost use Rattle.group_roster.specs.Listings.{group_print, listed, listing_cmp, print_after};
+ghost use Rattle.group_roster.specs.Listings.{group_print, member_listing, listing_cmp, print_after};
 
 use lic_types::Name;
 use std::cmp::Ordering;
@@ -55,7 +55,7 @@ pub(crate) fn member_print(of_group: u64, member: &Name) -> u64
 
 /// What is sought where it is asked whether the group, of users, or where `of_hosts`, of hosts, has the member.
 pub(crate) fn listed<'a>(of_hosts: bool, group: &'a Name, member: &'a Name) -> Listing<'a>
-    ensures { result ≡ listed of_hosts group.now member.now }
+    ensures { result ≡ member_listing of_hosts group.now member.now }
 {
     Listing {
         print: member_print(group_print(of_hosts, group), member),

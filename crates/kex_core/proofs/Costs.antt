@@ -3,7 +3,7 @@ use Rattle.std.proofs.Common.{◌≡◌, ◌≢◌, ◌⊎◌, ℕ, ◌+◌, ◌
 use Rattle.kex_core.specs.declared.place.Place.{Place}
 use Rattle.kex_core.specs.declared.place.Place.TheVariants.{Out, Dec, Mark, Look, Spin, Naming, Named, Holding, Clearing, Inc, Unmark}
 use Rattle.kex_core.specs.Nets.{Plan, Valid, on_path, before}
-use Rattle.kex_core.specs.Worlds.{due, passed, back, after}
+use Rattle.kex_core.specs.Worlds.{due, place_past, back, after}
 use Rattle.kex_core.specs.Laws.{Stage, Placed}
 use Rattle.kex_core.specs.Costs.{rank, depth, cost, bound, is_spin}
 use Rattle.kex_core.proofs.Thresholds.{below}
@@ -26,7 +26,7 @@ module _ (net : Plan) (valid : Valid net) (p : ℕ) (mine : p < net.parties) whe
   rank_low : (j : ℕ) → Stage net p j → rank net p j + 1 ≤ depth net p
   rank_low j s = let a = rank_next j s in let b = rank_le (net.next j) net.stages (valid.next_high j s.0) in omega arith
 
-  cost_passed : (j : ℕ) → Stage net p j → 3 * rank net p j + 3 ≤ cost net p (passed net j)
+  cost_passed : (j : ℕ) → Stage net p j → 3 * rank net p j + 3 ≤ cost net p (place_past net j)
   cost_passed j s = let a = rank_next j s in chosen (λ (q : Place). 3 * rank net p j + 3 ≤ cost net p q) (eqb (net.next j) net.stages) (cond (eqb net.width 1) (Named 0) (Naming 0)) (Dec (net.next j))
       (λ e. let f : rank net p (net.next j) ≡ depth net p = ap (rank net p) (eq_from (net.next j) net.stages e) in
       chosen (λ (q : Place). 3 * rank net p j + 3 ≤ cost net p q) (eqb net.width 1) (Named 0) (Naming 0) (λ _. omega arith) (λ _. omega arith))
@@ -40,10 +40,10 @@ module _ (net : Plan) (valid : Valid net) (p : ℕ) (mine : p < net.parties) whe
   -- one access more, or a read of Q, or the party is out
   pub cost_step : (d : Place) (n : ℕ) → d ≢ Out → Placed net p d → (after net p d n ≡ Out) ⊎ (cost net p d + 1 ≤ cost net p (after net p d n) + is_spin d)
   cost_step Out n o h = absurd (o refl)
-  cost_step (Dec j) n o h = let a = cost_passed j h in inr (chosen (λ (q : Place). 3 * rank net p j + 1 ≤ cost net p q + 0) (eqb n 1) (Mark j) (passed net j) (λ _. omega arith) (λ _. omega arith))
+  cost_step (Dec j) n o h = let a = cost_passed j h in inr (chosen (λ (q : Place). 3 * rank net p j + 1 ≤ cost net p q + 0) (eqb n 1) (Mark j) (place_past net j) (λ _. omega arith) (λ _. omega arith))
   cost_step (Mark j) n o h = inr (omega arith)
-  cost_step (Look j) n o h = let a = cost_passed j h in inr (chosen (λ (q : Place). 3 * rank net p j + 2 + 1 ≤ cost net p q + 0) (eqb n 0) (Spin j) (passed net j) (λ _. omega arith) (λ _. omega arith))
-  cost_step (Spin j) n o h = let a = cost_passed j h in inr (chosen (λ (q : Place). 3 * rank net p j + 3 + 1 ≤ cost net p q + 1) (eqb n (p + 1)) (Spin j) (passed net j) (λ _. omega arith) (λ _. omega arith))
+  cost_step (Look j) n o h = let a = cost_passed j h in inr (chosen (λ (q : Place). 3 * rank net p j + 2 + 1 ≤ cost net p q + 0) (eqb n 0) (Spin j) (place_past net j) (λ _. omega arith) (λ _. omega arith))
+  cost_step (Spin j) n o h = let a = cost_passed j h in inr (chosen (λ (q : Place). 3 * rank net p j + 3 + 1 ≤ cost net p q + 1) (eqb n (p + 1)) (Spin j) (place_past net j) (λ _. omega arith) (λ _. omega arith))
   cost_step (Naming i) n o h = let l = h.0 in inr (chosen (λ (q : Place). 3 * depth net p + i + 1 ≤ cost net p q + 0) (eqb n 0) (Named i) (cond (eqb (i + 2) net.width) (Named (i + 1)) (Naming (i + 1))) (λ _. omega arith)
       (λ _. chosen (λ (q : Place). 3 * depth net p + i + 1 ≤ cost net p q + 0) (eqb (i + 2) net.width) (Named (i + 1)) (Naming (i + 1)) (λ e. let f = eq_from (i + 2) net.width e in omega arith) (λ _. omega arith)))
   cost_step (Named s) n o h = inr (omega arith)

@@ -3,7 +3,7 @@ use Rattle.std.proofs.Common.{◌≡◌, ◌≢◌, ◌⊎◌, ℕ, ◌+◌, ◌
 use Rattle.kex_core.specs.declared.place.Place.{Place}
 use Rattle.kex_core.specs.declared.place.Place.TheVariants.{Out, Dec, Named, Holding, Inc}
 use Rattle.kex_core.specs.Nets.{Plan, Valid}
-use Rattle.kex_core.specs.Worlds.{Machine, due, after, accessed, move}
+use Rattle.kex_core.specs.Worlds.{Machine, due, after, machine_after_access, move}
 use Rattle.kex_core.specs.Laws.{Stage, Placed, Kept}
 use Rattle.kex_core.specs.Costs.{cost, bound, is_spin}
 use Rattle.kex_core.proofs.Sums.{over_has}
@@ -22,10 +22,10 @@ module _ (net : Plan) (valid : Valid net) (w : Machine) (kept : Kept net w) (p :
   pub due_placed : Placed net p d
   due_placed = subst (Placed net p) is (placed_due net valid p mine (w.place p) (kept.placed p mine))
 
-  pub move_is : move net w p ≡ accessed net w p d
-  move_is = row_is net w p (due net p (w.place p)) ∙ ap (accessed net w p) is
+  pub move_is : move net w p ≡ machine_after_access net w p d
+  move_is = row_is net w p (due net p (w.place p)) ∙ ap (machine_after_access net w p) is
 
-  pub kept_accessed : Kept net (accessed net w p d)
+  pub kept_accessed : Kept net (machine_after_access net w p d)
   kept_accessed = subst (Kept net) move_is (kept_move net valid w kept p mine)
 
   -- Dec doesn't wrap

@@ -4,7 +4,7 @@ use Rattle.std.proofs.lemmas.Bool.Decides.{nat_tests}
 use Rattle.kex_core.specs.declared.place.Place.{Place}
 use Rattle.kex_core.specs.declared.place.Place.TheVariants.{Out, Dec, Mark, Look, Spin, Naming, Named, Holding, Clearing, Inc, Unmark}
 use Rattle.kex_core.specs.Nets.{Plan, Valid, over, before}
-use Rattle.kex_core.specs.Worlds.{Machine, put, due, passed, back, value_found, after, x_after, q_after, bit_after, card_after, accessed}
+use Rattle.kex_core.specs.Worlds.{Machine, put, due, place_past, back, value_found, after, x_after, q_after, bit_after, card_after, machine_after_access}
 use Rattle.kex_core.specs.Laws.{Stage, Placed, Waits}
 use Rattle.kex_core.proofs.Thresholds.{counted_to, within_to, between_to, below, reaches, owns, holds, counted, between, between_others, KeptTo}
 use Rattle.kex_core.proofs.Sums.{same_or, chosen, eq_test, eq_from, yes_is, put_here, put_else, put_at, over_le, over_same, over_lt, over_lt_two, over_one, over_has, over_but, over_some}
@@ -160,7 +160,7 @@ module _ (net : Plan) (valid : Valid net) (w : Machine) (kept : KeptTo net w) (p
 
   -- the world after the access
   abbrev moved : Machine
-  moved = accessed net w p spot
+  moved = machine_after_access net w p spot
 
   abbrev place : ℕ → Place
   place = put w.place p next
@@ -259,8 +259,8 @@ module _ (net : Plan) (valid : Valid net) (w : Machine) (kept : KeptTo net w) (p
   my_watch j z h = ⊎_elim
       (λ (e : w.place p ≡ Mark j). let s : spot ≡ Mark j = ap (due net p) e in inr (inl (here_now (Mark j) (Look j) s refl), ap (λ (d : Place). q_after p d w.q j) s ∙ put_here w.q j (p + 1)))
       (λ (t : ((w.place p ≡ Look j) ⊎ (w.place p ≡ Spin j)) × (w.q j ≡ p + 1)). ⊎_elim
-      (λ (e : w.place p ≡ Look j). let s : spot ≡ Look j = ap (due net p) e in inr (inr (here_now (Look j) (Spin j) s (choose_yes (eqb (w.x j) 0) (Spin j) (passed net j) (eq_test (w.x j) 0 z))), ap (λ (d : Place). q_after p d w.q j) s ∙ t.1))
-      (λ (e : w.place p ≡ Spin j). let s : spot ≡ Spin j = ap (due net p) e in inr (inr (here_now (Spin j) (Spin j) s (choose_yes (eqb (w.q j) (p + 1)) (Spin j) (passed net j) (eq_test (w.q j) (p + 1) t.1))), ap (λ (d : Place). q_after p d w.q j) s ∙ t.1)) t.0) h
+      (λ (e : w.place p ≡ Look j). let s : spot ≡ Look j = ap (due net p) e in inr (inr (here_now (Look j) (Spin j) s (choose_yes (eqb (w.x j) 0) (Spin j) (place_past net j) (eq_test (w.x j) 0 z))), ap (λ (d : Place). q_after p d w.q j) s ∙ t.1))
+      (λ (e : w.place p ≡ Spin j). let s : spot ≡ Spin j = ap (due net p) e in inr (inr (here_now (Spin j) (Spin j) s (choose_yes (eqb (w.q j) (p + 1)) (Spin j) (place_past net j) (eq_test (w.q j) (p + 1) t.1))), ap (λ (d : Place). q_after p d w.q j) s ∙ t.1)) t.0) h
 
   their_watch : (q j : ℕ) → q ≢ p → q_after p spot w.q j ≡ w.q j → Waits w q j → (place q ≡ Mark j) ⊎ (((place q ≡ Look j) ⊎ (place q ≡ Spin j)) × (q_after p spot w.q j ≡ q + 1))
   their_watch q j d same h = let e = place_else q d in ⊎_elim (λ (a : w.place q ≡ Mark j). inl (e ∙ a))
@@ -274,7 +274,7 @@ module _ (net : Plan) (valid : Valid net) (w : Machine) (kept : KeptTo net w) (p
       (λ (t : ((spot ≡ Mark j) ⊎ (spot ≡ Unmark j)) × (q_after p spot w.q j ≡ p + 1)). ⊎_elim
       (λ (s : spot ≡ Mark j). (p, mine, inr (inl (here_now (Mark j) (Look j) s refl), t.1)))
       (λ (s : spot ≡ Unmark j). let u = unmark_room j s in absurd (omega arith)) t.0) (q_cases j)) (same_or (r.0) p))
-      (λ (t : (spot ≡ Dec j) × (w.x j ≡ 1)). (p, mine, inl (here_now (Dec j) (Mark j) t.0 (choose_yes (eqb (w.x j) 1) (Mark j) (passed net j) (eq_test (w.x j) 1 t.1))))) (x_cases j z)
+      (λ (t : (spot ≡ Dec j) × (w.x j ≡ 1)). (p, mine, inl (here_now (Dec j) (Mark j) t.0 (choose_yes (eqb (w.x j) 1) (Mark j) (place_past net j) (eq_test (w.x j) 1 t.1))))) (x_cases j z)
 
   base_after : Base net moved
   base_after = record { placed = placed_after; counters = count_after; watched = full_after }
@@ -295,7 +295,7 @@ module _ (net : Plan) (valid : Valid net) (w : Machine) (kept : KeptTo net w) (p
   spin_cases : (j : ℕ) → next ≡ Spin j → ((spot ≡ Look j) × (w.x j ≡ 0)) ⊎ ((spot ≡ Spin j) × (w.q j ≡ p + 1))
   spin_cases j e = go spot refl e
     where
-      no_pass : (i j : ℕ) → passed net i ≡ Spin j → ⊥
+      no_pass : (i j : ℕ) → place_past net i ≡ Spin j → ⊥
       no_pass i j = chosen (λ (q : Place). q ≡ Spin j → ⊥) (eqb (net.next i) net.stages) (cond (eqb net.width 1) (Named 0) (Naming 0)) (Dec (net.next i))
           (λ _. chosen (λ (q : Place). q ≡ Spin j → ⊥) (eqb net.width 1) (Named 0) (Naming 0) (λ _ h. cc) (λ _ h. cc)) (λ _ h. cc)
 
@@ -304,11 +304,11 @@ module _ (net : Plan) (valid : Valid net) (w : Machine) (kept : KeptTo net w) (p
 
       go : (d : Place) → spot ≡ d → after net p d (value_found w p d) ≡ Spin j → ((spot ≡ Look j) × (w.x j ≡ 0)) ⊎ ((spot ≡ Spin j) × (w.q j ≡ p + 1))
       go Out s h = absurd (cc)
-      go (Dec i) s h = absurd (chosen (λ (q : Place). q ≡ Spin j → ⊥) (eqb (w.x i) 1) (Mark i) (passed net i) (λ _ h. cc) (λ _. no_pass i j) h)
+      go (Dec i) s h = absurd (chosen (λ (q : Place). q ≡ Spin j → ⊥) (eqb (w.x i) 1) (Mark i) (place_past net i) (λ _ h. cc) (λ _. no_pass i j) h)
       go (Mark i) s h = absurd (cc)
-      go (Look i) s h = inl (chosen (λ (q : Place). q ≡ Spin j → (spot ≡ Look j) × (w.x j ≡ 0)) (eqb (w.x i) 0) (Spin i) (passed net i)
+      go (Look i) s h = inl (chosen (λ (q : Place). q ≡ Spin j → (spot ≡ Look j) × (w.x j ≡ 0)) (eqb (w.x i) 0) (Spin i) (place_past net i)
           (λ t h. let e = spin_is i j h in (s ∙ ap Look e, ap w.x (sym e) ∙ eq_from (w.x i) 0 t)) (λ _ h. absurd (no_pass i j h)) h)
-      go (Spin i) s h = inr (chosen (λ (q : Place). q ≡ Spin j → (spot ≡ Spin j) × (w.q j ≡ p + 1)) (eqb (w.q i) (p + 1)) (Spin i) (passed net i)
+      go (Spin i) s h = inr (chosen (λ (q : Place). q ≡ Spin j → (spot ≡ Spin j) × (w.q j ≡ p + 1)) (eqb (w.q i) (p + 1)) (Spin i) (place_past net i)
           (λ t h. let e = spin_is i j h in (s ∙ ap Spin e, ap w.q (sym e) ∙ eq_from (w.q i) (p + 1) t)) (λ _ h. absurd (no_pass i j h)) h)
       go (Naming i) s h = absurd (chosen (λ (q : Place). q ≡ Spin j → ⊥) (eqb (w.bit i) 0) (Named i) (cond (eqb (i + 2) net.width) (Named (i + 1)) (Naming (i + 1))) (λ _ h. cc)
           (λ _. chosen (λ (q : Place). q ≡ Spin j → ⊥) (eqb (i + 2) net.width) (Named (i + 1)) (Naming (i + 1)) (λ _ h. cc) (λ _ h. cc)) h)

@@ -3,7 +3,7 @@ use Rattle.std.proofs.Common.{◌≡◌, ◌≢◌, ◌⊎◌, ℕ, zero, suc, �
 use Rattle.kex_core.specs.declared.place.Place.{Place}
 use Rattle.kex_core.specs.declared.place.Place.TheVariants.{Out, Dec, Naming, Named, Inc}
 use Rattle.kex_core.specs.Nets.{Plan, Valid, starts, feeds, on_path, before}
-use Rattle.kex_core.specs.Worlds.{due, passed, back}
+use Rattle.kex_core.specs.Worlds.{due, place_past, back}
 use Rattle.kex_core.specs.Laws.{Stage}
 use Rattle.kex_core.proofs.Thresholds.{starts_at, feeds_at, below}
 use Rattle.kex_core.proofs.Sums.{chosen, eq_test, eq_from, ne_from, yes_is, over_has, over_two}
@@ -75,10 +75,10 @@ module _ (net : Plan) (valid : Valid net) (p : ℕ) (mine : p < net.parties) whe
       pub named : (i : ℕ) → to (Named i) ≡ net.stages
       pub inc : (i : ℕ) → to (Inc i) ≡ i + 1
 
-    pub passed_below : Usual → (j k : ℕ) → k < net.stages → Stage net p j → below net p (to (passed net j)) k ≡ below net p (j + 1) k
+    pub passed_below : Usual → (j k : ℕ) → k < net.stages → Stage net p j → below net p (to (place_past net j)) k ≡ below net p (j + 1) k
     passed_below u j k l s = ap (λ (t : ℕ). below net p t k) same ∙ next_below j k l s.0 s.1
       where
-        same : to (passed net j) ≡ net.next j
+        same : to (place_past net j) ≡ net.next j
         same = chosen (λ (q : Place). to q ≡ net.next j) (eqb (net.next j) net.stages) (cond (eqb net.width 1) (Named 0) (Naming 0)) (Dec (net.next j))
             (λ e. chosen (λ (q : Place). to q ≡ net.next j) (eqb net.width 1) (Named 0) (Naming 0) (λ _. u.named 0 ∙ sym (eq_from (net.next j) net.stages e)) (λ _. u.naming 0 ∙ sym (eq_from (net.next j) net.stages e)))
             (λ _. u.dec (net.next j))

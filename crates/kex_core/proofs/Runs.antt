@@ -3,7 +3,7 @@ use Rattle.std.proofs.Common.{◌≤◌, ◌≡◌, ◌≢◌, ℕ, ◌+◌, ◌
 use Rattle.kex_core.specs.declared.place.Place.{Place}
 use Rattle.kex_core.specs.declared.place.Place.TheVariants.{Out, Dec, Mark, Look, Spin, Naming, Named, Holding, Clearing, Inc, Unmark}
 use Rattle.kex_core.specs.Nets.{Plan, Valid, over}
-use Rattle.kex_core.specs.Worlds.{Machine, due, row, accessed, move, run, opening, Parties}
+use Rattle.kex_core.specs.Worlds.{Machine, due, row, machine_after_access, move, run, opening, Parties}
 use Rattle.kex_core.specs.Sets.{held_at}
 use Rattle.kex_core.specs.Laws.{Placed, Kept, Safe}
 use Rattle.kex_core.proofs.Thresholds.{below, holds, reaches, KeptTo}
@@ -39,7 +39,7 @@ module _ (net : Plan) where
   kept_opening = kept_from net (opening net) opening_to
 
   -- a row of the listing, word by word
-  pub row_is : (w : Machine) (p : ℕ) (d : Place) → row net w p d ≡ accessed net w p d
+  pub row_is : (w : Machine) (p : ℕ) (d : Place) → row net w p d ≡ machine_after_access net w p d
   row_is w p Out = refl
   row_is w p (Dec j) = refl
   row_is w p (Mark j) = refl
@@ -53,7 +53,7 @@ module _ (net : Plan) where
   row_is w p (Unmark j) = refl
 
   pub kept_move : Valid net → (w : Machine) → Kept net w → (p : ℕ) → p < net.parties → Kept net (move net w p)
-  kept_move valid w kept p mine = subst (Kept net) (sym (row_is w p (due net p (w.place p)))) (kept_from net (accessed net w p (due net p (w.place p))) (kept_step net valid w (kept_to net w kept) p mine))
+  kept_move valid w kept p mine = subst (Kept net) (sym (row_is w p (due net p (w.place p)))) (kept_from net (machine_after_access net w p (due net p (w.place p))) (kept_step net valid w (kept_to net w kept) p mine))
 
   pub kept_run : Valid net → (ps : List ℕ) (w : Machine) → Parties net ps → Kept net w → Kept net (run net ps w)
   kept_run valid [] w h kept = kept

@@ -4,7 +4,7 @@ use Rattle.std.proofs.lemmas.Bool.Decides.{nat_tests}
 use Rattle.kex_core.specs.declared.place.Place.{Place}
 use Rattle.kex_core.specs.declared.place.Place.TheVariants.{Out, Dec, Mark, Look, Spin, Naming, Named, Holding, Clearing, Inc, Unmark}
 use Rattle.kex_core.specs.Nets.{Plan, Valid, on_path, before}
-use Rattle.kex_core.specs.Worlds.{Machine, put, due, passed, back, value_found, after, x_after, bit_after, card_after}
+use Rattle.kex_core.specs.Worlds.{Machine, put, due, place_past, back, value_found, after, x_after, bit_after, card_after}
 use Rattle.kex_core.specs.Laws.{Stage, Placed}
 use Rattle.kex_core.proofs.Thresholds.{counted_to, between_to, passed_to, below, reaches, owns, holds}
 use Rattle.kex_core.proofs.Sums.{same_or, chosen, eq_test, ne_test, eq_from, ne_from, put_else, put_at, yes_is, no_is}
@@ -50,15 +50,15 @@ module _ (net : Plan) (valid : Valid net) (p : ℕ) (mine : p < net.parties) whe
   count_local w Out h z k l = refl
   count_local w (Dec j) h z k l =
       let a : below net p (counted_to net.stages (after net p (Dec j) (w.x j))) k ≡ below net p (j + 1) k =
-      chosen (λ (q : Place). below net p (counted_to net.stages q) k ≡ below net p (j + 1) k) (eqb (w.x j) 1) (Mark j) (passed net j) (λ _. refl) (λ _. passed_below net valid p mine (counted_to net.stages) usual_counted j k l h) in
+      chosen (λ (q : Place). below net p (counted_to net.stages q) k ≡ below net p (j + 1) k) (eqb (w.x j) 1) (Mark j) (place_past net j) (λ _. refl) (λ _. passed_below net valid p mine (counted_to net.stages) usual_counted j k l h) in
       let pos : 0 < w.x j = z j refl in
       ⊎_elim (λ (e : k ≡ j). let b = at_below j k h e in let c : put w.x j (w.x j - 1) k ≡ w.x j - 1 = put_at w.x j (w.x j - 1) k e in let f : w.x k ≡ w.x j = ap w.x e in omega arith)
       (λ (e : k ≢ j). let b = step_below j k e in let c : put w.x j (w.x j - 1) k ≡ w.x k = put_else w.x j (w.x j - 1) k e in omega arith) (same_or k j)
   count_local w (Mark j) h z k l = refl
   count_local w (Look j) h z k l = ap (λ (t : ℕ). w.x k + t)
-      (chosen (λ (q : Place). below net p (counted_to net.stages q) k ≡ below net p (j + 1) k) (eqb (w.x j) 0) (Spin j) (passed net j) (λ _. refl) (λ _. passed_below net valid p mine (counted_to net.stages) usual_counted j k l h))
+      (chosen (λ (q : Place). below net p (counted_to net.stages q) k ≡ below net p (j + 1) k) (eqb (w.x j) 0) (Spin j) (place_past net j) (λ _. refl) (λ _. passed_below net valid p mine (counted_to net.stages) usual_counted j k l h))
   count_local w (Spin j) h z k l = ap (λ (t : ℕ). w.x k + t)
-      (chosen (λ (q : Place). below net p (counted_to net.stages q) k ≡ below net p (j + 1) k) (eqb (w.q j) (p + 1)) (Spin j) (passed net j) (λ _. refl) (λ _. passed_below net valid p mine (counted_to net.stages) usual_counted j k l h))
+      (chosen (λ (q : Place). below net p (counted_to net.stages q) k ≡ below net p (j + 1) k) (eqb (w.q j) (p + 1)) (Spin j) (place_past net j) (λ _. refl) (λ _. passed_below net valid p mine (counted_to net.stages) usual_counted j k l h))
   count_local w (Naming i) h z k l = ap (λ (t : ℕ). w.x k + t)
       (chosen (λ (q : Place). below net p (counted_to net.stages q) k ≡ below net p net.stages k) (eqb (w.bit i) 0) (Named i) (cond (eqb (i + 2) net.width) (Named (i + 1)) (Naming (i + 1))) (λ _. refl)
       (λ _. chosen (λ (q : Place). below net p (counted_to net.stages q) k ≡ below net p net.stages k) (eqb (i + 2) net.width) (Named (i + 1)) (Naming (i + 1)) (λ _. refl) (λ _. refl)))
@@ -78,15 +78,15 @@ module _ (net : Plan) (valid : Valid net) (p : ℕ) (mine : p < net.parties) whe
   between_local Out n h k l u = omega arith
   between_local (Dec j) n h k l u =
       let a : below net p (between_to net.stages (after net p (Dec j) n)) k ≡ below net p (j + 1) k =
-      chosen (λ (q : Place). below net p (between_to net.stages q) k ≡ below net p (j + 1) k) (eqb n 1) (Mark j) (passed net j) (λ _. refl) (λ _. passed_below net valid p mine (between_to net.stages) usual_between j k l h) in
+      chosen (λ (q : Place). below net p (between_to net.stages q) k ≡ below net p (j + 1) k) (eqb n 1) (Mark j) (place_past net j) (λ _. refl) (λ _. passed_below net valid p mine (between_to net.stages) usual_between j k l h) in
       let b = below_le net p j (j + 1) k (λ _ g. omega arith) in omega arith
   between_local (Mark j) n h k l u = omega arith
   between_local (Look j) n h k l u =
       let a : below net p (between_to net.stages (after net p (Look j) n)) k ≡ below net p (j + 1) k =
-      chosen (λ (q : Place). below net p (between_to net.stages q) k ≡ below net p (j + 1) k) (eqb n 0) (Spin j) (passed net j) (λ _. refl) (λ _. passed_below net valid p mine (between_to net.stages) usual_between j k l h) in omega arith
+      chosen (λ (q : Place). below net p (between_to net.stages q) k ≡ below net p (j + 1) k) (eqb n 0) (Spin j) (place_past net j) (λ _. refl) (λ _. passed_below net valid p mine (between_to net.stages) usual_between j k l h) in omega arith
   between_local (Spin j) n h k l u =
       let a : below net p (between_to net.stages (after net p (Spin j) n)) k ≡ below net p (j + 1) k =
-      chosen (λ (q : Place). below net p (between_to net.stages q) k ≡ below net p (j + 1) k) (eqb n (p + 1)) (Spin j) (passed net j) (λ _. refl) (λ _. passed_below net valid p mine (between_to net.stages) usual_between j k l h) in omega arith
+      chosen (λ (q : Place). below net p (between_to net.stages q) k ≡ below net p (j + 1) k) (eqb n (p + 1)) (Spin j) (place_past net j) (λ _. refl) (λ _. passed_below net valid p mine (between_to net.stages) usual_between j k l h) in omega arith
   between_local (Naming i) n h k l u =
       let a : below net p (between_to net.stages (after net p (Naming i) n)) k ≡ below net p net.stages k =
       chosen (λ (q : Place). below net p (between_to net.stages q) k ≡ below net p net.stages k) (eqb n 0) (Named i) (cond (eqb (i + 2) net.width) (Named (i + 1)) (Naming (i + 1))) (λ _. refl)
@@ -102,7 +102,7 @@ module _ (net : Plan) (valid : Valid net) (p : ℕ) (mine : p < net.parties) whe
       let a = back_below net valid p mine (between_to net.stages) usual_between j k l (let s = h.0 in omega arith) h.1 in
       let d : k ≢ j = λ e. u (ap Unmark (sym e)) in let b = step_below j k d in omega arith
 
-  placed_passed : (j : ℕ) → Stage net p j → Placed net p (passed net j)
+  placed_passed : (j : ℕ) → Stage net p j → Placed net p (place_past net j)
   placed_passed j s = let o = path_next net valid p mine j s.0 s.1 in let wide = valid.wide in let high = valid.next_high j s.0 in
       chosen (Placed net p) (eqb (net.next j) net.stages) (cond (eqb net.width 1) (Named 0) (Naming 0)) (Dec (net.next j))
       (λ e. let t : on_path net p net.stages ≡ true = subst (λ (i : ℕ). on_path net p i ≡ true) (eq_from (net.next j) net.stages e) o in
@@ -115,10 +115,10 @@ module _ (net : Plan) (valid : Valid net) (p : ℕ) (mine : p < net.parties) whe
 
   pub placed_local : (d : Place) (n : ℕ) → Placed net p d → Placed net p (after net p d n)
   placed_local Out n h = tt
-  placed_local (Dec j) n h = chosen (Placed net p) (eqb n 1) (Mark j) (passed net j) (λ _. h) (λ _. placed_passed j h)
+  placed_local (Dec j) n h = chosen (Placed net p) (eqb n 1) (Mark j) (place_past net j) (λ _. h) (λ _. placed_passed j h)
   placed_local (Mark j) n h = h
-  placed_local (Look j) n h = chosen (Placed net p) (eqb n 0) (Spin j) (passed net j) (λ _. h) (λ _. placed_passed j h)
-  placed_local (Spin j) n h = chosen (Placed net p) (eqb n (p + 1)) (Spin j) (passed net j) (λ _. h) (λ _. placed_passed j h)
+  placed_local (Look j) n h = chosen (Placed net p) (eqb n 0) (Spin j) (place_past net j) (λ _. h) (λ _. placed_passed j h)
+  placed_local (Spin j) n h = chosen (Placed net p) (eqb n (p + 1)) (Spin j) (place_past net j) (λ _. h) (λ _. placed_passed j h)
   placed_local (Naming i) n h = let l = h.0 in chosen (Placed net p) (eqb n 0) (Named i) (cond (eqb (i + 2) net.width) (Named (i + 1)) (Naming (i + 1))) (λ _. (omega arith, h.1))
       (λ _. chosen (Placed net p) (eqb (i + 2) net.width) (Named (i + 1)) (Naming (i + 1)) (λ _. (omega arith, h.1)) (λ e. let d = ne_from (i + 2) net.width e in (omega arith, h.1)))
   placed_local (Named s) n h = h
@@ -142,7 +142,7 @@ module _ (net : Plan) (valid : Valid net) (p : ℕ) (mine : p < net.parties) whe
   placed_due (Inc j) h = h
   placed_due (Unmark j) h = h
 
-  reach_passed : (i j : ℕ) → reaches (i + 1) (passed net j) ≡ 0
+  reach_passed : (i j : ℕ) → reaches (i + 1) (place_past net j) ≡ 0
   reach_passed i j = chosen (λ (q : Place). reaches (i + 1) q ≡ 0) (eqb (net.next j) net.stages) (cond (eqb net.width 1) (Named 0) (Naming 0)) (Dec (net.next j))
       (λ _. chosen (λ (q : Place). reaches (i + 1) q ≡ 0) (eqb net.width 1) (Named 0) (Naming 0) (λ _. reach_none 0 (i + 1) (omega arith)) (λ _. reach_none 0 (i + 1) (omega arith))) (λ _. refl)
 
@@ -152,10 +152,10 @@ module _ (net : Plan) (valid : Valid net) (p : ℕ) (mine : p < net.parties) whe
   -- past position i one comes by the test of bit i alone, where it was set
   pub reach_local : (i : ℕ) (d : Place) (n : ℕ) → (d ≡ Naming i → n ≡ 0) → reaches (i + 1) (after net p d n) ≤ reaches (i + 1) d
   reach_local i Out n h = omega arith
-  reach_local i (Dec j) n h = chosen (λ (q : Place). reaches (i + 1) q ≤ 0) (eqb n 1) (Mark j) (passed net j) (λ _. omega arith) (λ _. let a = reach_passed i j in omega arith)
+  reach_local i (Dec j) n h = chosen (λ (q : Place). reaches (i + 1) q ≤ 0) (eqb n 1) (Mark j) (place_past net j) (λ _. omega arith) (λ _. let a = reach_passed i j in omega arith)
   reach_local i (Mark j) n h = omega arith
-  reach_local i (Look j) n h = chosen (λ (q : Place). reaches (i + 1) q ≤ 0) (eqb n 0) (Spin j) (passed net j) (λ _. omega arith) (λ _. let a = reach_passed i j in omega arith)
-  reach_local i (Spin j) n h = chosen (λ (q : Place). reaches (i + 1) q ≤ 0) (eqb n (p + 1)) (Spin j) (passed net j) (λ _. omega arith) (λ _. let a = reach_passed i j in omega arith)
+  reach_local i (Look j) n h = chosen (λ (q : Place). reaches (i + 1) q ≤ 0) (eqb n 0) (Spin j) (place_past net j) (λ _. omega arith) (λ _. let a = reach_passed i j in omega arith)
+  reach_local i (Spin j) n h = chosen (λ (q : Place). reaches (i + 1) q ≤ 0) (eqb n (p + 1)) (Spin j) (place_past net j) (λ _. omega arith) (λ _. let a = reach_passed i j in omega arith)
   reach_local i (Naming s) n h = chosen (λ (q : Place). reaches (i + 1) q ≤ cond (ltb s (i + 1)) 0 1) (eqb n 0) (Named s) (cond (eqb (s + 2) net.width) (Named (s + 1)) (Naming (s + 1))) (λ _. omega arith)
       (λ e. let d : s ≢ i = λ f. ne_from n 0 e (h (ap Naming f)) in let a = reach_mono s (s + 1) (i + 1) (λ g. omega arith) in
       chosen (λ (q : Place). reaches (i + 1) q ≤ cond (ltb s (i + 1)) 0 1) (eqb (s + 2) net.width) (Named (s + 1)) (Naming (s + 1)) (λ _. a) (λ _. a))
@@ -165,14 +165,14 @@ module _ (net : Plan) (valid : Valid net) (p : ℕ) (mine : p < net.parties) whe
   reach_local i (Inc j) n h = omega arith
   reach_local i (Unmark j) n h = let a = reach_back (i + 1) j in omega arith
 
-  owns_passed : (k j : ℕ) → k + 1 < net.width → owns k (passed net j) ≡ 0
+  owns_passed : (k j : ℕ) → k + 1 < net.width → owns k (place_past net j) ≡ 0
   owns_passed k j l = chosen (λ (q : Place). owns k q ≡ 0) (eqb (net.next j) net.stages) (cond (eqb net.width 1) (Named 0) (Naming 0)) (Dec (net.next j))
       (λ _. chosen (λ (q : Place). owns k q ≡ 0) (eqb net.width 1) (Named 0) (Naming 0) (λ e. let f = eq_from net.width 1 e in absurd (omega arith)) (λ _. refl)) (λ _. refl)
 
   owns_back : (k j : ℕ) → owns k (back net p j) ≡ 0
   owns_back k j = chosen (λ (q : Place). owns k q ≡ 0) (eqb (net.start p) j) Out (Inc (before net p j)) (λ _. refl) (λ _. refl)
 
-  holds_passed : (k j : ℕ) → holds k (passed net j) ≡ 0
+  holds_passed : (k j : ℕ) → holds k (place_past net j) ≡ 0
   holds_passed k j = chosen (λ (q : Place). holds k q ≡ 0) (eqb (net.next j) net.stages) (cond (eqb net.width 1) (Named 0) (Naming 0)) (Dec (net.next j))
       (λ _. chosen (λ (q : Place). holds k q ≡ 0) (eqb net.width 1) (Named 0) (Naming 0) (λ _. refl) (λ _. refl)) (λ _. refl)
 
@@ -182,10 +182,10 @@ module _ (net : Plan) (valid : Valid net) (p : ℕ) (mine : p < net.parties) whe
   pub owns_local : (w : Machine) (d : Place) (k : ℕ) → k + 1 < net.width → w.bit k ≤ 1 → owns k d ≤ w.bit k
       → owns k (after net p d (value_found w p d)) + w.bit k ≡ owns k d + bit_after d w.bit k
   owns_local w Out k l b o = refl
-  owns_local w (Dec j) k l b o = ap (λ (t : ℕ). t + w.bit k) (chosen (λ (q : Place). owns k q ≡ 0) (eqb (w.x j) 1) (Mark j) (passed net j) (λ _. refl) (λ _. owns_passed k j l))
+  owns_local w (Dec j) k l b o = ap (λ (t : ℕ). t + w.bit k) (chosen (λ (q : Place). owns k q ≡ 0) (eqb (w.x j) 1) (Mark j) (place_past net j) (λ _. refl) (λ _. owns_passed k j l))
   owns_local w (Mark j) k l b o = refl
-  owns_local w (Look j) k l b o = ap (λ (t : ℕ). t + w.bit k) (chosen (λ (q : Place). owns k q ≡ 0) (eqb (w.x j) 0) (Spin j) (passed net j) (λ _. refl) (λ _. owns_passed k j l))
-  owns_local w (Spin j) k l b o = ap (λ (t : ℕ). t + w.bit k) (chosen (λ (q : Place). owns k q ≡ 0) (eqb (w.q j) (p + 1)) (Spin j) (passed net j) (λ _. refl) (λ _. owns_passed k j l))
+  owns_local w (Look j) k l b o = ap (λ (t : ℕ). t + w.bit k) (chosen (λ (q : Place). owns k q ≡ 0) (eqb (w.x j) 0) (Spin j) (place_past net j) (λ _. refl) (λ _. owns_passed k j l))
+  owns_local w (Spin j) k l b o = ap (λ (t : ℕ). t + w.bit k) (chosen (λ (q : Place). owns k q ≡ 0) (eqb (w.q j) (p + 1)) (Spin j) (place_past net j) (λ _. refl) (λ _. owns_passed k j l))
   owns_local w (Naming i) k l b o = ⊎_elim
       (λ (e : k ≡ i). let c = put_at w.bit i 1 k e in let f : w.bit k ≡ w.bit i = ap w.bit e in
       chosen (λ (q : Place). owns k q + w.bit k ≡ 0 + put w.bit i 1 k) (eqb (w.bit i) 0) (Named i) (cond (eqb (i + 2) net.width) (Named (i + 1)) (Naming (i + 1)))
@@ -210,10 +210,10 @@ module _ (net : Plan) (valid : Valid net) (p : ℕ) (mine : p < net.parties) whe
   pub holds_local : (w : Machine) (d : Place) (k : ℕ) → (d ≡ Named k → w.card k ≡ 0) → holds k d ≤ w.card k → w.card k ≤ 1
       → holds k (after net p d (value_found w p d)) + w.card k ≡ holds k d + card_after d w.card k
   holds_local w Out k n o l = refl
-  holds_local w (Dec j) k n o l = ap (λ (t : ℕ). t + w.card k) (chosen (λ (q : Place). holds k q ≡ 0) (eqb (w.x j) 1) (Mark j) (passed net j) (λ _. refl) (λ _. holds_passed k j))
+  holds_local w (Dec j) k n o l = ap (λ (t : ℕ). t + w.card k) (chosen (λ (q : Place). holds k q ≡ 0) (eqb (w.x j) 1) (Mark j) (place_past net j) (λ _. refl) (λ _. holds_passed k j))
   holds_local w (Mark j) k n o l = refl
-  holds_local w (Look j) k n o l = ap (λ (t : ℕ). t + w.card k) (chosen (λ (q : Place). holds k q ≡ 0) (eqb (w.x j) 0) (Spin j) (passed net j) (λ _. refl) (λ _. holds_passed k j))
-  holds_local w (Spin j) k n o l = ap (λ (t : ℕ). t + w.card k) (chosen (λ (q : Place). holds k q ≡ 0) (eqb (w.q j) (p + 1)) (Spin j) (passed net j) (λ _. refl) (λ _. holds_passed k j))
+  holds_local w (Look j) k n o l = ap (λ (t : ℕ). t + w.card k) (chosen (λ (q : Place). holds k q ≡ 0) (eqb (w.x j) 0) (Spin j) (place_past net j) (λ _. refl) (λ _. holds_passed k j))
+  holds_local w (Spin j) k n o l = ap (λ (t : ℕ). t + w.card k) (chosen (λ (q : Place). holds k q ≡ 0) (eqb (w.q j) (p + 1)) (Spin j) (place_past net j) (λ _. refl) (λ _. holds_passed k j))
   holds_local w (Naming i) k n o l = ap (λ (t : ℕ). t + w.card k) (chosen (λ (q : Place). holds k q ≡ 0) (eqb (w.bit i) 0) (Named i) (cond (eqb (i + 2) net.width) (Named (i + 1)) (Naming (i + 1))) (λ _. refl)
       (λ _. chosen (λ (q : Place). holds k q ≡ 0) (eqb (i + 2) net.width) (Named (i + 1)) (Naming (i + 1)) (λ _. refl) (λ _. refl)))
   holds_local w (Named s) k n o l = ⊎_elim

@@ -5,7 +5,7 @@ use Rattle.std.proofs.lemmas.Grind.{common_steps}
 use Rattle.kex_core.specs.declared.place.Place.{Place}
 use Rattle.kex_core.specs.declared.place.Place.TheVariants.{Out, Dec, Mark, Look, Spin, Naming, Named, Holding, Clearing, Inc, Unmark}
 use Rattle.kex_core.specs.Nets.{Plan}
-use Rattle.kex_core.specs.Worlds.{Machine, put, due, value_found, after, x_after, q_after, bit_after, card_after, accessed, move}
+use Rattle.kex_core.specs.Worlds.{Machine, put, due, value_found, after, x_after, q_after, bit_after, card_after, machine_after_access, move}
 use Rattle.kex_core.specs.Laws.{Placed, Kept}
 use Rattle.kex_core.specs.Shapes.{Sheet, plan, IsNet, State, machine, IsWorld, HasWord}
 use Rattle.kex_core.proofs.Steps.{placed_due}
@@ -55,7 +55,7 @@ module _ (s : State) (world : IsWorld s) (p : ℕ) (mine : p < s.net.parties) (d
 
   module _ (t : State) (a : Place) (written : Written t a) where
     pub step_moved : machine t ≡ move (plan s.net) (machine s) p
-    step_moved = machine_eq (machine t) (accessed (plan s.net) (machine s) p d) written.x written.q written.bit written.card
+    step_moved = machine_eq (machine t) (machine_after_access (plan s.net) (machine s) p d) written.x written.q written.bit written.card
         (let read : List Place → ℕ → Place = λ l j. get_or l j Out in ap read written.places ∙ (put_list s.places p a Out (let l = world.places in omega arith) ∙ ap (put (machine s).place p) written.after))
         ∙ sym (move_is (plan s.net) world.net.valid (machine s) world.kept p mine d (sym is))
 

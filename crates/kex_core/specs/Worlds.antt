@@ -37,8 +37,8 @@ due net p (Inc j) = Inc j
 due net p (Unmark j) = Unmark j
 
 -- where a party goes that has passed stage j
-abbrev pub passed : Plan → ℕ → Place
-passed net j = (if net.next j == net.stages then (if net.width == 1 then Named 0 else Naming 0) else Dec (net.next j))
+abbrev pub place_past : Plan → ℕ → Place
+place_past net j = (if net.next j == net.stages then (if net.width == 1 then Named 0 else Naming 0) else Dec (net.next j))
 
 -- where p goes back to from j, a stage or Exit
 abbrev pub back : Plan → ℕ → ℕ → Place
@@ -61,10 +61,10 @@ value_found w p Out = 0
 -- the place after the access of this place, which found n
 abbrev pub after : Plan → ℕ → Place → ℕ → Place
 after net p Out n = Out
-after net p (Dec j) n = (if n == 1 then Mark j else passed net j)
+after net p (Dec j) n = (if n == 1 then Mark j else place_past net j)
 after net p (Mark j) n = Look j
-after net p (Look j) n = (if n == 0 then Spin j else passed net j)
-after net p (Spin j) n = (if n == p + 1 then Spin j else passed net j)
+after net p (Look j) n = (if n == 0 then Spin j else place_past net j)
+after net p (Spin j) n = (if n == p + 1 then Spin j else place_past net j)
 after net p (Naming i) n = (if n == 0 then Named i else (if i + 2 == net.width then Named (i + 1) else Naming (i + 1)))
 after net p (Named s) n = Holding s
 after net p (Holding s) n = (if s + 1 == net.width then back net p net.stages else Clearing s)
@@ -125,8 +125,8 @@ card_after (Inc j) c = c
 card_after (Unmark j) c = c
 
 -- The same row word by word: for whoever has read the word himself, and knows what the access found.
-abbrev pub accessed : Plan → Machine → ℕ → Place → Machine
-accessed net w p d = record {
+abbrev pub machine_after_access : Plan → Machine → ℕ → Place → Machine
+machine_after_access net w p d = record {
   x = x_after d w.x;
   q = q_after p d w.q;
   bit = bit_after d w.bit;
@@ -141,10 +141,10 @@ goes w p d = record w { place = put w.place p d }
 -- The listing: for the place whose access is due, the one word that it changes and the place that follows. Out has no row of its own: what is due there is its start's.
 abbrev pub row : Plan → Machine → ℕ → Place → Machine
 row net w p Out = goes w p Out
-row net w p (Dec j) = goes (record w { x = put w.x j (w.x j - 1) }) p (if w.x j == 1 then Mark j else passed net j)
+row net w p (Dec j) = goes (record w { x = put w.x j (w.x j - 1) }) p (if w.x j == 1 then Mark j else place_past net j)
 row net w p (Mark j) = goes (record w { q = put w.q j (p + 1) }) p (Look j)
-row net w p (Look j) = goes w p (if w.x j == 0 then Spin j else passed net j)
-row net w p (Spin j) = goes w p (if w.q j == p + 1 then Spin j else passed net j)
+row net w p (Look j) = goes w p (if w.x j == 0 then Spin j else place_past net j)
+row net w p (Spin j) = goes w p (if w.q j == p + 1 then Spin j else place_past net j)
 row net w p (Naming i) = goes (record w { bit = put w.bit i 1 }) p (if w.bit i == 0 then Named i else (if i + 2 == net.width then Named (i + 1) else Naming (i + 1)))
 row net w p (Named s) = goes (record w { card = put w.card s 1 }) p (Holding s)
 row net w p (Holding s) = goes (record w { card = put w.card s 0 }) p (if s + 1 == net.width then back net p net.stages else Clearing s)

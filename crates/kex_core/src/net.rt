@@ -2,7 +2,7 @@ ghost use Rattle.std.specs.Prelude.{◌⊎◌, false, ◌≡◌, ◌≢◌, ◌+
 ghost use Rattle.kex_core.specs.Nets.{on_path, before, starts, feeds};
 ghost use Rattle.kex_core.specs.Shapes.{Sheet, sheet, plan, IsNet};
 ghost use Rattle.kex_core.specs.Faults.{Refused};
-ghost use Rattle.kex_core.specs.Worlds.{due, passed, back, after};
+ghost use Rattle.kex_core.specs.Worlds.{due, place_past, back, after};
 ghost use Rattle.kex_core.specs.Laws.{Placed};
 ghost use Rattle.kex_core.specs.declared.limits.TheConstants.{STAGE_LIMIT};
 
@@ -234,7 +234,7 @@ impl Net {
     /// where the width is 1 needs no test.
     pub fn passed(&self, j: u32) -> Place
         requires { j < (plan self.now).stages }
-        ensures { result ≡ passed (plan self.now) j }
+        ensures { result ≡ place_past (plan self.now) j }
     {
         let k = self.next_or_exit(j);
         if k == self.stages() {

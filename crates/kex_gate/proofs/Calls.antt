@@ -12,10 +12,10 @@ use Rattle.kex_gate.specs.declared.view.Spot.{Spot}
 use Rattle.kex_gate.specs.declared.view.Spot.TheVariants.{Free, Testing, Taking, Fast, Clearing, Giving, Slow}
 use Rattle.kex_gate.specs.declared.view.Visit.{Visit}
 use Rattle.kex_gate.specs.declared.view.View.{View}
-use Rattle.kex_gate.specs.Passes.{Gate, Guest, Way, IsSetUp, sessions, resting, slow_seats, own_pass, visited, room_word, bit_word}
+use Rattle.kex_gate.specs.Passes.{Gate, Guest, Way, IsSetUp, sessions, resting, slow_seats, own_pass, guest_with_visit, room_word, bit_word}
 use Rattle.pass_roles.specs.Roles.{number_of}
 use Rattle.kex_gate.specs.Rule.{IsGate}
-use Rattle.kex_gate.specs.Steps.{Self, spot_at, last_of, IsSession, IsIdle, IsLane, StandsAt, GoesOn, guest_of, way_of, pass_at, is_fast, meets_others, tested, went_out, went_home, cleared, gave, gave_slow, entered_view, Meets}
+use Rattle.kex_gate.specs.Steps.{Self, spot_at, last_of, IsSession, IsIdle, IsLane, StandsAt, GoesOn, guest_of, way_of, pass_at, is_fast, meets_others, tested_bit, went_out, went_home, cleared_bit, gave, gave_slow, entered_view, Meets}
 use Rattle.kex_gate.proofs.Words.{comes, test_bit, clear_bit, gives, gives_slow}
 use Rattle.kex_gate.proofs.Moving.{leaves_slot, comes_home, last_snoc}
 
@@ -33,11 +33,11 @@ module _ (id : TableId) (told seats : TableNet) (n m : ℕ) (self : Gate) (seat_
   pub takes_place : (seat slots : ℕ) → me.0.spot ≡ Free → (seat_id ≡ id) × (room_word < id.words) × Allows (IsGate told) slots seat me room_word (λ k. (k + (2 ^ 64 - 1)) % 2 ^ 64) (meets_others (step slots room_word 1 0 none) me)
   takes_place seat slots free = (same_id, (let a = up.words in let b = up.one in omega arith), subst (λ (t : TableNet). Allows (IsGate t) slots seat me room_word (λ k. (k + (2 ^ 64 - 1)) % 2 ^ 64) (meets_others (step slots room_word 1 0 none) me)) told_is (comes me is slots seat free))
 
-  pub tests_bit : (seat slots w i : ℕ) → me.0.spot ≡ Testing i → i + 1 < self.seats.net.width → w ≡ bit_word i → (seat_id ≡ id) × (w < id.words) × Allows (IsGate told) slots seat me w (λ _. 1) (tested (step slots w 1 0 none) me)
-  tests_bit seat slots w i e low w_is = (same_id, (let a = up.words in let b = width_is in omega arith), subst (λ (x : TableNet × ℕ). Allows (IsGate x.0) slots seat me x.1 (λ _. 1) (tested (step slots x.1 1 0 none) me)) (λ k. (told_is k, sym w_is k)) (test_bit me is slots seat i e))
+  pub tests_bit : (seat slots w i : ℕ) → me.0.spot ≡ Testing i → i + 1 < self.seats.net.width → w ≡ bit_word i → (seat_id ≡ id) × (w < id.words) × Allows (IsGate told) slots seat me w (λ _. 1) (tested_bit (step slots w 1 0 none) me)
+  tests_bit seat slots w i e low w_is = (same_id, (let a = up.words in let b = width_is in omega arith), subst (λ (x : TableNet × ℕ). Allows (IsGate x.0) slots seat me x.1 (λ _. 1) (tested_bit (step slots x.1 1 0 none) me)) (λ k. (told_is k, sym w_is k)) (test_bit me is slots seat i e))
 
-  pub clears_bit : (seat slots w i : ℕ) → me.0.spot ≡ Clearing i → i + 1 < self.seats.net.width → w ≡ bit_word i → (seat_id ≡ id) × (w < id.words) × Allows (IsGate told) slots seat me w (λ _. 0) (λ _. cleared (step slots w 0 0 none) me 0)
-  clears_bit seat slots w i e low w_is = (same_id, (let a = up.words in let b = width_is in omega arith), subst (λ (x : TableNet × ℕ). Allows (IsGate x.0) slots seat me x.1 (λ _. 0) (λ _. cleared (step slots x.1 0 0 none) me 0)) (λ k. (told_is k, sym w_is k)) (clear_bit me is slots seat i e))
+  pub clears_bit : (seat slots w i : ℕ) → me.0.spot ≡ Clearing i → i + 1 < self.seats.net.width → w ≡ bit_word i → (seat_id ≡ id) × (w < id.words) × Allows (IsGate told) slots seat me w (λ _. 0) (λ _. cleared_bit (step slots w 0 0 none) me 0)
+  clears_bit seat slots w i e low w_is = (same_id, (let a = up.words in let b = width_is in omega arith), subst (λ (x : TableNet × ℕ). Allows (IsGate x.0) slots seat me x.1 (λ _. 0) (λ _. cleared_bit (step slots x.1 0 0 none) me 0)) (λ k. (told_is k, sym w_is k)) (clear_bit me is slots seat i e))
 
   pub gives_place : (seat slots : ℕ) → me.0.spot ≡ Giving → (seat_id ≡ id) × (room_word < id.words) × Allows (IsGate told) slots seat me room_word (λ k. (k + 1) % 2 ^ 64) (gave (step slots room_word 1 0 none) me)
   gives_place seat slots e = (same_id, (let a = up.words in let b = up.one in omega arith), subst (λ (t : TableNet). Allows (IsGate t) slots seat me room_word (λ k. (k + 1) % 2 ^ 64) (gave (step slots room_word 1 0 none) me)) told_is (gives me is slots seat e))
@@ -216,8 +216,8 @@ few_of told seats id n m self up self_is law w p f gate_is p_is inside bound = f
     (subst (λ (z : Gate × ℕ). (sessions z.0.seats.net ≤ z.1) × (z.1 < sessions z.0.seats.net + z.0.seats.net.width)) (λ i. (gate_is i, sym p_is i)) inside) bound
 
 -- what a session had, once it was noted
-pub visit_is : (id id' : TableId) (v w : View) (x k : ℕ) (g : Guest) (b f : Bool) (a : Spot) (l : List ℕ) → id' ≡ id → w ≡ record v { spot = a; visits = v.visits ++ (record { seat = x; fast = b }) ∷ []; kept = l } → x ≡ k → guest_of id v ≡ g → b ≡ f → guest_of id' w ≡ visited g k f
-visit_is id id' v w x k g b f a l same w_is x_is g_is f_is = (λ i. guest_of (same i) (w_is i)) ∙ (λ i. visited (g_is i) (x_is i) (f_is i))
+pub visit_is : (id id' : TableId) (v w : View) (x k : ℕ) (g : Guest) (b f : Bool) (a : Spot) (l : List ℕ) → id' ≡ id → w ≡ record v { spot = a; visits = v.visits ++ (record { seat = x; fast = b }) ∷ []; kept = l } → x ≡ k → guest_of id v ≡ g → b ≡ f → guest_of id' w ≡ guest_with_visit g k f
+visit_is id id' v w x k g b f a l same w_is x_is g_is f_is = (λ i. guest_of (same i) (w_is i)) ∙ (λ i. guest_with_visit (g_is i) (x_is i) (f_is i))
 
 pub last_taken : (p h : Pass) (q : Pass) (k : ℕ) → GoesOn p h (k ∷ []) → q.got ≡ h.got → last_of q.got ≡ k
 last_taken p h q k on got = ap last_of (got ∙ on.got) ∙ last_snoc p.got k

@@ -14,7 +14,7 @@ use Rattle.kex_gate.specs.declared.view.Spot.{Spot}
 use Rattle.kex_gate.specs.declared.view.Spot.TheVariants.{Free}
 use Rattle.kex_gate.specs.declared.view.View.{View}
 use Rattle.kex_gate.specs.Passes.{sessions}
-use Rattle.kex_gate.specs.Rule.{IsGate, IsHome, IsAway, Fits, numbered, busy, within, reaches, owns, is_out, kept_at, busy_in, within_in, reaches_in, owns_in, is_out_in, weight, numbered_in, fast_in, kept_in, fast_worth}
+use Rattle.kex_gate.specs.Rule.{IsGate, IsHome, IsAway, Fits, times_numbered, busy, within, reaches, owns, is_out, kept_at, busy_in, within_in, reaches_in, owns_in, is_out_in, weight, times_numbered_in, fast_in, kept_in, fast_worth}
 use Rattle.kex_gate.specs.Steps.{both, spent_view}
 use Rattle.kex_gate.proofs.Counts.{total_append}
 use Rattle.kex_gate.proofs.Keeps.{known}
@@ -33,9 +33,9 @@ joins id gone v w is_v is_w free s r at apart at' =
     let no_maker : (i x : ℕ) (d : View) → get_elem? s.views i ≡ some d → d.role ≡ Party x → r.maker_seat ≢ i = λ i x d at_d is_d e.
     let same_view : r.maker.0 ≡ d = some-injective r.maker.0 d (sym r.maker.1 ∙ (ap (get_elem? s.views) e ∙ at_d)) in
     let clash : Maker r.made ≡ Party x = sym r.maker.2 ∙ (ap (λ (y : View). y.role) same_view ∙ is_d) in cc in
-    let all_numbers : (x : ℕ) → total (numbered_in x) views' ≡ total (numbered_in x) s.views = λ x. let t = total_is (numbered_in x) in
-    let a : numbered_in x v ≡ times x (p ∷ v.joined) = ap (numbered x v.joined) is_v in let c : numbered_in x w ≡ times x (q ∷ w.joined) = ap (numbered x w.joined) is_w in
-    let d : numbered_in x b ≡ times x (p ∷ q ∷ (w.joined ++ v.joined)) = ap (numbered x b.joined) is_v in let e = times_append x w.joined v.joined in omega arith in
+    let all_numbers : (x : ℕ) → total (times_numbered_in x) views' ≡ total (times_numbered_in x) s.views = λ x. let t = total_is (times_numbered_in x) in
+    let a : times_numbered_in x v ≡ times x (p ∷ v.joined) = ap (times_numbered x v.joined) is_v in let c : times_numbered_in x w ≡ times x (q ∷ w.joined) = ap (times_numbered x w.joined) is_w in
+    let d : times_numbered_in x b ≡ times x (p ∷ q ∷ (w.joined ++ v.joined)) = ap (times_numbered x b.joined) is_v in let e = times_append x w.joined v.joined in omega arith in
     record {
       made = r.made;
       maker_seat = r.maker_seat;

@@ -12,7 +12,7 @@ use Rattle.kex_gate.specs.declared.view.Spot.{Spot}
 use Rattle.kex_gate.specs.declared.view.Visit.{Visit}
 use Rattle.kex_gate.specs.declared.view.View.{View}
 use Rattle.kex_gate.specs.Passes.{sessions, room_word, bit_word}
-use Rattle.kex_gate.specs.Rule.{GateState, Homes, IsGate, IsHome, IsAway, MayStand, Fits, Standing, busy, is_out, kept_at, busy_in, within_in, reaches_in, owns_in, is_out_in, weight, numbered_in, fast_in, kept_in, home_worth, fast_worth}
+use Rattle.kex_gate.specs.Rule.{GateState, Homes, IsGate, IsHome, IsAway, MayStand, Fits, Standing, busy, is_out, kept_at, busy_in, within_in, reaches_in, owns_in, is_out_in, weight, times_numbered_in, fast_in, kept_in, home_worth, fast_worth}
 use Rattle.kex_gate.proofs.Counts.{total_le, busy_one, within_busy}
 
 -- a session weighs at least what it is worth as one that is not Free
@@ -74,8 +74,8 @@ module _ (s : GateState) (id : ℕ) (v : View) (r : IsGate v.seats s) (at : get_
       books = books;
       few = r.few;
       weights = total_same (weight (sessions v.seats.net)) refl ∙ r.weights;
-      dealt = λ q near. total_same (numbered_in q) refl ∙ r.dealt q near;
-      undealt = λ q far. total_same (numbered_in q) refl ∙ r.undealt q far;
+      dealt = λ q near. total_same (times_numbered_in q) refl ∙ r.dealt q near;
+      undealt = λ q far. total_same (times_numbered_in q) refl ∙ r.undealt q far;
       maker = (
         r.maker.0,
         set_else s.views id r.maker_seat w (λ e. let same_view : r.maker.0 ≡ v = some-injective r.maker.0 v (sym r.maker.1 ∙ (ap (get_elem? s.views) e ∙ at)) in

@@ -12,7 +12,7 @@ use Rattle.pass_roles.specs.declared.role.Role.{Role}
 use Rattle.pass_roles.specs.declared.role.Role.TheVariants.{Maker, Party, Spent}
 use Rattle.kex_gate.specs.declared.view.View.{View}
 use Rattle.kex_gate.specs.Passes.{sessions}
-use Rattle.kex_gate.specs.Rule.{IsGate, IsHome, IsAway, Fits, Making, numbered, busy_in, within_in, reaches_in, owns_in, is_out_in, weight, numbered_in, fast_in, kept_in}
+use Rattle.kex_gate.specs.Rule.{IsGate, IsHome, IsAway, Fits, Making, times_numbered, busy_in, within_in, reaches_in, owns_in, is_out_in, weight, times_numbered_in, fast_in, kept_in}
 use Rattle.kex_gate.specs.Steps.{dealt_view, newcomer}
 
 -- the other views, once one more pass was dealt
@@ -35,8 +35,8 @@ deals id v k is room s r at =
     let K : ℕ → View → Type 0 = λ j d. Fits v.seats (r.made + 1) r.maker_seat j d d.role in
     let here : K last x = subst (λ (y : Role). Fits v.seats (r.made + 1) r.maker_seat last x y) (sym x_role) record { seats_is = refl; stands = tt } in
     let there : K id w = subst (λ (y : Role). Fits v.seats (r.made + 1) r.maker_seat id w y) (sym w_role) record { seats_is = refl; made_is = refl; seat_is = known.seat_is; spot_is = known.spot_is; visits = known.visits } in
-    let one_more : (q : ℕ) → total (numbered_in q) views' ≡ total (numbered_in q) s.views + times q (r.made ∷ []) = λ q. let t = total_is (numbered_in q) in
-    let a : numbered_in q v ≡ 0 = ap (numbered q v.joined) is in let b : numbered_in q w ≡ 0 = ap (numbered q v.joined) w_role in let c : numbered_in q x ≡ times q (r.made ∷ []) = ap (numbered q []) x_role in omega arith in
+    let one_more : (q : ℕ) → total (times_numbered_in q) views' ≡ total (times_numbered_in q) s.views + times q (r.made ∷ []) = λ q. let t = total_is (times_numbered_in q) in
+    let a : times_numbered_in q v ≡ 0 = ap (times_numbered q v.joined) is in let b : times_numbered_in q w ≡ 0 = ap (times_numbered q v.joined) w_role in let c : times_numbered_in q x ≡ times q (r.made ∷ []) = ap (times_numbered q []) x_role in omega arith in
     record {
       made = r.made + 1;
       maker_seat = r.maker_seat;

@@ -13,7 +13,7 @@ use Rattle.kex_gate.specs.declared.view.Visit.{Visit}
 use Rattle.kex_gate.specs.declared.view.View.{View}
 use Rattle.kex_gate.specs.Passes.{room_word, bit_word}
 use Rattle.kex_gate.specs.Rule.{GateState, IsGate, MayStand, busy, within, reaches, owns, is_out, kept_at, up_to, just, busy_in, within_in, reaches_in, owns_in, fast_worth}
-use Rattle.kex_gate.specs.Steps.{Self, view_at, entered_view, spot_at, spot_tested, meets_others, tested, cleared, gave, gave_slow}
+use Rattle.kex_gate.specs.Steps.{Self, view_at, entered_view, spot_at, spot_tested, meets_others, tested_bit, cleared_bit, gave, gave_slow}
 use Rattle.kex_gate.proofs.Counts.{total_le, total_le3, total_append, tests, reaches_within, further_on}
 use Rattle.kex_gate.proofs.Keeps.{few_busy, few_within, low_at, total_is, changes_plain}
 
@@ -115,7 +115,7 @@ module _ (me : Self) (is : me.0.role ≡ Party (number_of me.0.role)) where
       (λ t. let last = eq_from (i + 1 + 1) m t in sets_again s id i r at e (ne_from n 0 f) (Taking (i + 1)) (omega arith) refl refl (λ j. refl) (λ j l. omega arith) (λ j. refl) refl)
       (λ g. let on = ne_from (i + 1 + 1) m g in sets_again s id i r at e (ne_from n 0 f) (Testing (i + 1)) (omega arith) refl refl (λ j. refl) (λ j l. refl) (λ j. refl) refl))
 
-  pub test_bit : (slots id i : ℕ) → v.spot ≡ Testing i → Allows (IsGate v.seats) slots id me (bit_word i) (λ _. 1) (tested (step slots (bit_word i) 1 0 none) me)
+  pub test_bit : (slots id i : ℕ) → v.spot ≡ Testing i → Allows (IsGate v.seats) slots id me (bit_word i) (λ _. 1) (tested_bit (step slots (bit_word i) 1 0 none) me)
   test_bit slots id i e s r _ at _ = let n : ℕ = get_or s.words (bit_word i) 0 in
       (view_at v (spot_tested m n v.spot), keeps, tt, subst (λ (q : Spot). After s id (bit_word i) 1 (view_at v q)) (sym (ap (spot_tested m n) e)) (tested_all s id i r at e), refl)
 
@@ -133,7 +133,7 @@ module _ (me : Self) (is : me.0.role ≡ Party (number_of me.0.role)) where
       (λ (h : j ≡ i). let g : get_or (set s.words (bit_word i) 0) (bit_word j) 0 ≡ 0 = ap (λ (k : ℕ). get_or (set s.words (bit_word i) 0) (bit_word k) 0) h ∙ get_or-set_same s.words (bit_word i) 0 0 (omega arith) in (omega arith, omega arith))
       (λ (d : j ≢ i). let g = get_or-set_other s.words (bit_word i) (bit_word j) 0 0 (λ z. d (omega arith)) in (omega arith, omega arith)) (same_or j i))
 
-  pub clear_bit : (slots id i : ℕ) → v.spot ≡ Clearing i → Allows (IsGate v.seats) slots id me (bit_word i) (λ _. 0) (λ _. cleared (step slots (bit_word i) 0 0 none) me 0)
+  pub clear_bit : (slots id i : ℕ) → v.spot ≡ Clearing i → Allows (IsGate v.seats) slots id me (bit_word i) (λ _. 0) (λ _. cleared_bit (step slots (bit_word i) 0 0 none) me 0)
   clear_bit slots id i e s r _ at _ = (view_at v Giving, keeps, tt, cleared_all s id i r at e, refl)
 
   -- a session gives its place back, and has noted these visits

@@ -73,8 +73,8 @@ abbrev pub own_pass : Guest → Pass
 own_pass g = resting g.gate.seats g.number (slow_seats g.visits)
 
 -- the session, once it had one more seat
-abbrev pub visited : Guest → ℕ → Bool → Guest
-visited g s f = record g { visits = g.visits ++ (record { seat = s; fast = f }) ∷ [] }
+abbrev pub guest_with_visit : Guest → ℕ → Bool → Guest
+guest_with_visit g s f = record g { visits = g.visits ++ (record { seat = s; fast = f }) ∷ [] }
 
 -- a session that never had a seat
 abbrev pub fresh : Gate → ℕ → Guest

@@ -103,10 +103,10 @@ MayStand m k Giving = Unit {0}
 MayStand m k Slow = m ≤ k
 
 -- how often a number is a view's own or was joined into it
-abbrev pub numbered : ℕ → List ℕ → Role → ℕ
-numbered q l (Maker m) = 0
-numbered q l (Party p) = times q (p ∷ l)
-numbered q l Spent = 0
+abbrev pub times_numbered : ℕ → List ℕ → Role → ℕ
+times_numbered q l (Maker m) = 0
+times_numbered q l (Party p) = times q (p ∷ l)
+times_numbered q l Spent = 0
 
 -- the visits by the fast way, each worth f of its seat
 abbrev pub fast_worth : (ℕ → ℕ) → Visit → ℕ
@@ -131,8 +131,8 @@ is_out_in i v = is_out i v.spot
 abbrev pub weight : ℕ → View → ℕ
 weight n v = weigh n (length v.joined) v.role
 
-abbrev pub numbered_in : ℕ → View → ℕ
-numbered_in q v = numbered q v.joined v.role
+abbrev pub times_numbered_in : ℕ → View → ℕ
+times_numbered_in q v = times_numbered q v.joined v.role
 
 abbrev pub fast_in : (ℕ → ℕ) → View → ℕ
 fast_in f v = total (fast_worth f) v.visits
@@ -201,8 +201,8 @@ pub record IsGate (seats : TableNet) (s : GateState) : Type 0 where
   -- the numbers that the views stand for are all there are, and each that was dealt is in one view, once
   pub few : made ≤ sessions seats.net
   pub weights : total (weight (sessions seats.net)) s.views ≡ sessions seats.net
-  pub dealt : (q : ℕ) → q < made → total (numbered_in q) s.views ≡ 1
-  pub undealt : (q : ℕ) → made ≤ q → total (numbered_in q) s.views ≡ 0
+  pub dealt : (q : ℕ) → q < made → total (times_numbered_in q) s.views ≡ 1
+  pub undealt : (q : ℕ) → made ≤ q → total (times_numbered_in q) s.views ≡ 0
   -- there is one maker
   pub maker : (v : View) × (get_elem? s.views maker_seat ≡ some v) × (v.role ≡ Maker made)
   pub each : (j : ℕ) (v : View) → get_elem? s.views j ≡ some v → Fits seats made maker_seat j v v.role

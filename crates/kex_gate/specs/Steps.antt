@@ -113,8 +113,8 @@ entered_view v n k = record v { spot = spot_found v.seats.net.width n; met = k }
 abbrev pub meets_others : Step (Option Pass) → Self → ℕ → Self → Type 0
 meets_others st m n m' = (k : ℕ) × Meets m.0 k × (n + k ≡ FULL + m.0.seats.net.width) × (m' ≡ (entered_view m.0 n k, m.1))
 
-abbrev pub tested : Step (Option Pass) → Self → ℕ → Self → Type 0
-tested st m n m' = m' ≡ (view_at m.0 (spot_tested m.0.seats.net.width n m.0.spot), m.1)
+abbrev pub tested_bit : Step (Option Pass) → Self → ℕ → Self → Type 0
+tested_bit st m n m' = m' ≡ (view_at m.0 (spot_tested m.0.seats.net.width n m.0.spot), m.1)
 
 -- the pass left its slot, and what it had taken is known
 abbrev pub went_out : Step (Option Pass) → Self → ℕ → Self → Type 0
@@ -124,8 +124,8 @@ went_out st m n m' = (l : List ℕ) × (m' ≡ (record m.0 { spot = Fast (index_
 abbrev pub went_home : Step (Option Pass) → Self → ℕ → Self → Type 0
 went_home st m n m' = m' ≡ (record m.0 { spot = spot_home m.0.seats.net.width (index_of m.0.spot); visits = m.0.visits ++ (record { seat = last_in m.1; fast = true }) ∷ []; kept = [] }, rest m.1)
 
-abbrev pub cleared : Step (Option Pass) → Self → ℕ → Self → Type 0
-cleared st m n m' = m' ≡ (view_at m.0 Giving, m.1)
+abbrev pub cleared_bit : Step (Option Pass) → Self → ℕ → Self → Type 0
+cleared_bit st m n m' = m' ≡ (view_at m.0 Giving, m.1)
 
 abbrev pub gave : Step (Option Pass) → Self → ℕ → Self → Type 0
 gave st m n m' = m' ≡ (view_at m.0 Free, m.1)

@@ -61,9 +61,9 @@ impl Play<Option<Out>, View> for Takes {
 pub(crate) struct Tests;
 
 impl Play<Option<Out>, View> for Tests {
-    ghost use Rattle.kex_gate.specs.Steps.{tested};
+    ghost use Rattle.kex_gate.specs.Steps.{tested_bit};
 
-    ghost then = { tested };
+    ghost then = { tested_bit };
 }
 
 /// A pass leaves its slot.
@@ -88,9 +88,9 @@ impl Play<Option<Out>, View> for PassesIn {
 pub(crate) struct Clears;
 
 impl Play<Option<Out>, View> for Clears {
-    ghost use Rattle.kex_gate.specs.Steps.{cleared};
+    ghost use Rattle.kex_gate.specs.Steps.{cleared_bit};
 
-    ghost then = { cleared };
+    ghost then = { cleared_bit };
 }
 
 /// Raises the count of room, by a session that was let through.

@@ -5,7 +5,7 @@ ghost use Rattle.kex_core.specs.Shapes.{plan};
 ghost use Rattle.kex_core.specs.declared.place.Place.TheVariants.{Holding};
 ghost use Rattle.seat_names.specs.Turns.{IsThrough, Turned};
 ghost use Rattle.kex_gate.specs.declared.view.Spot.TheVariants.{Free, Fast};
-ghost use Rattle.kex_gate.specs.Passes.{sessions, resting, visited};
+ghost use Rattle.kex_gate.specs.Passes.{sessions, resting, guest_with_visit};
 ghost use Rattle.kex_gate.specs.Steps.{last_of, IsSession};
 ghost use Rattle.kex_gate.specs.Turns.{turn_in, guest_in_turn, fast_in_turn, met_in_turn, pass_in_turn, Met};
 
@@ -114,7 +114,7 @@ impl GatedSeats {
     /// gate. The seat is noted as the last that the session had, with the way that it came.
     pub fn leave(&self, hold: GateHold) -> GateOut
         requires own { hold.guest.gate ≡ self.now }
-        ensures { result ≡ visited hold.guest hold.held.card.number hold.fast }
+        ensures { result ≡ guest_with_visit hold.guest hold.held.card.number hold.fast }
     {
         let GateHold { hold, lane } = hold;
         let Lane { own, mut seat } = lane;

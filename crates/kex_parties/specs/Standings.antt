@@ -1,7 +1,7 @@
 -- Where parties stand, and what a step of one is.
 use Rattle.std.specs.Prelude.{◌≡◌, ℕ, ◌<◌, List, Option, None, Some, slice_get}
 use Rattle.kex_core.specs.declared.place.Place.{Place}
-use Rattle.kex_words.specs.Passes.{Pass, TableNet, unused}
+use Rattle.kex_words.specs.Passes.{Pass, TableNet, unused_pass}
 use Rattle.kex_words.specs.Moves.{Moved}
 
 -- a table with all its parties: of each its pass, in the order of their numbers
@@ -31,4 +31,4 @@ Moves (Some p) (Some q) = Moved p q
 
 -- all parties are Out and were never used
 abbrev pub AreRested : PartiesView → Type 0
-AreRested v = (i : ℕ) → i < v.table.net.parties → slice_get v.parties i ≡ Some (Some (unused v.table i))
+AreRested v = (i : ℕ) → i < v.table.net.parties → slice_get v.parties i ≡ Some (Some (unused_pass v.table i))

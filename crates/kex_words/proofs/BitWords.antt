@@ -6,7 +6,7 @@ use Rattle.atomic_table.specs.Table.{State, step, keeps, Allows}
 use Rattle.kex_core.specs.declared.place.Place.{Place}
 use Rattle.kex_core.specs.declared.place.Place.TheVariants.{Naming, Named, Clearing}
 use Rattle.kex_core.specs.Nets.{Plan}
-use Rattle.kex_core.specs.Worlds.{put, due, value_found, x_after, q_after, bit_after, card_after, accessed}
+use Rattle.kex_core.specs.Worlds.{put, due, value_found, x_after, q_after, bit_after, card_after, machine_after_access}
 use Rattle.kex_core.specs.Shapes.{plan}
 use Rattle.kex_words.specs.declared.card.Card.{Card}
 use Rattle.pass_roles.specs.declared.role.Role.TheVariants.{Party}
@@ -38,7 +38,7 @@ module _ (me : Self) (is : me.0.role ≡ Party (number_of me.0.role)) where
   -- a bit is written
   bit_read : (d : Place) (is_due : due net p v.place ≡ d) (s : St) (id i n y : ℕ) (r : IsReadOff v.net s) (at : get_elem? s.views id ≡ some v) → i + 1 < v.net.width → n ≡ value_found r.world p d
       → got_after d v.got ≡ v.got → card_after d r.world.card ≡ r.world.card → x_after d r.world.x ≡ r.world.x → q_after p d r.world.q ≡ r.world.q → bit_after d r.world.bit ≡ put r.world.bit i y → ((k : ℕ) → d ≢ Named k)
-      → (r' : IsReadOff v.net record { words = set s.words (word_of i) y; homes = s.homes; views = set s.views id (next_view v n) }) × (r'.world ≡ accessed net r.world p d)
+      → (r' : IsReadOff v.net record { words = set s.words (word_of i) y; homes = s.homes; views = set s.views id (next_view v n) }) × (r'.world ≡ machine_after_access net r.world p d)
   bit_read d is_due s id i n y r at inside n_is same_got same_card same_x same_q new_bit other = let w : ℕ = word_of i in let wide = r.wide in
       reads_plain s id v r at is d is_due n n_is (set s.words w y) same_got same_card (free net p d n other) (length-set s.words w y)
       (λ k l. get_or-set_other s.words w (2 * k + 1) y 0 (λ e. omega arith) ∙ (r.x_is k l ∙ ap (λ (f : ℕ → ℕ). f k) (sym same_x)))
@@ -47,12 +47,12 @@ module _ (me : Self) (is : me.0.role ≡ Party (number_of me.0.role)) where
       (λ k l. get_or-set_other s.words w (2 * length v.net.caps + v.net.width + k) y 0 (λ e. omega arith) ∙ r.card_is k l)
 
   pub test_read : (s : St) (id i : ℕ) (r : IsReadOff v.net s) (at : get_elem? s.views id ≡ some v) (is_due : due net p v.place ≡ Naming i)
-      → (r' : IsReadOff v.net record { words = set s.words (word_of i) 1; homes = s.homes; views = set s.views id (next_view v (get_or s.words (word_of i) 0)) }) × (r'.world ≡ accessed net r.world p (Naming i))
+      → (r' : IsReadOff v.net record { words = set s.words (word_of i) 1; homes = s.homes; views = set s.views id (next_view v (get_or s.words (word_of i) 0)) }) × (r'.world ≡ machine_after_access net r.world p (Naming i))
   test_read s id i r at is_due = let l = (low me is s id r at (Naming i) is_due).0 in
       bit_read (Naming i) is_due s id i (get_or s.words (word_of i) 0) 1 r at l (r.bit_is i l) refl refl refl refl refl (λ k e. cc)
 
   pub clear_read : (s : St) (id i : ℕ) (r : IsReadOff v.net s) (at : get_elem? s.views id ≡ some v) (is_due : due net p v.place ≡ Clearing i)
-      → (r' : IsReadOff v.net record { words = set s.words (word_of i) 0; homes = s.homes; views = set s.views id (next_view v 0) }) × (r'.world ≡ accessed net r.world p (Clearing i))
+      → (r' : IsReadOff v.net record { words = set s.words (word_of i) 0; homes = s.homes; views = set s.views id (next_view v 0) }) × (r'.world ≡ machine_after_access net r.world p (Clearing i))
   clear_read s id i r at is_due = bit_read (Clearing i) is_due s id i 0 0 r at (low me is s id r at (Clearing i) is_due).0 refl refl refl refl refl refl (λ k e. cc)
 
   pub tests : (slots id i : ℕ) → due net p v.place ≡ Naming i → Allows (IsReadOff v.net) slots id me (word_of i) (λ _. 1) (moves_no_card (step slots (word_of i) 1 0 none) me)

@@ -9,7 +9,7 @@ use Rattle.atomic_table.proofs.Lists.{set_here, set_else}
 use Rattle.kex_core.specs.declared.place.Place.{Place}
 use Rattle.kex_core.specs.declared.place.Place.TheVariants.{Named, Holding}
 use Rattle.kex_core.specs.Nets.{Plan}
-use Rattle.kex_core.specs.Worlds.{due, after, accessed}
+use Rattle.kex_core.specs.Worlds.{due, after, machine_after_access}
 use Rattle.kex_core.specs.Shapes.{Sheet, plan}
 use Rattle.kex_core.proofs.Sums.{put_at, put_else}
 use Rattle.kex_core.proofs.Exports.{card_home, card_away}
@@ -58,7 +58,7 @@ module _ (me : Self) (is : me.0.role ≡ Party (number_of me.0.role)) where
 
   -- card k, which is c, goes out from its slot
   card_out_read : (k : ℕ) (named : v.place ≡ Named k) (s : St) (id : ℕ) (r : IsReadOff v.net s) (at : get_elem? s.views id ≡ some v) (c : Card) → get_elem? s.homes k ≡ some (some (Some c)) → c.uses ≡ total (took_of k) s.views % 2 ^ 64
-      → (r' : IsReadOff v.net record { words = set s.words (word_of k) 1; homes = set s.homes k none; views = set s.views id (record (next_view v (get_or s.words (word_of k) 0)) { uses = (c.uses + 1) % 2 ^ 64 }) }) × (r'.world ≡ accessed net r.world p (Named k))
+      → (r' : IsReadOff v.net record { words = set s.words (word_of k) 1; homes = set s.homes k none; views = set s.views id (record (next_view v (get_or s.words (word_of k) 0)) { uses = (c.uses + 1) % 2 ^ 64 }) }) × (r'.world ≡ machine_after_access net r.world p (Named k))
   card_out_read k named s id r at c c_at c_uses =
       let due_is : due net p v.place ≡ Named k = ap (due net p) named in let inside : k < v.net.width = (low me is s id r at (Named k) due_is).0 in let at_home = home_is k named s id r at in let wide = r.wide in
       let n : ℕ = get_or s.words (word_of k) 0 in let n_is : n ≡ r.world.card k = r.card_is k inside in
@@ -108,15 +108,15 @@ module _ (me : Self) (is : me.0.role ≡ Party (number_of me.0.role)) where
 
   -- the same with the uses by the views
   pub card_out_law : (k : ℕ) (named : v.place ≡ Named k) (s : St) (id : ℕ) (r : IsReadOff v.net s) → get_elem? s.views id ≡ some v
-      → (r' : IsReadOff v.net record { words = set s.words (word_of k) 1; homes = set s.homes k none; views = set s.views id (record (next_view v (get_or s.words (word_of k) 0)) { uses = (total (took_of k) s.views % 2 ^ 64 + 1) % 2 ^ 64 }) }) × (r'.world ≡ accessed net r.world p (Named k))
+      → (r' : IsReadOff v.net record { words = set s.words (word_of k) 1; homes = set s.homes k none; views = set s.views id (record (next_view v (get_or s.words (word_of k) 0)) { uses = (total (took_of k) s.views % 2 ^ 64 + 1) % 2 ^ 64 }) }) × (r'.world ≡ machine_after_access net r.world p (Named k))
   card_out_law k named s id r at = let home = home_card k named s id r at in
-      subst (λ (u : ℕ). (r' : IsReadOff v.net record { words = set s.words (word_of k) 1; homes = set s.homes k none; views = set s.views id (record (next_view v (get_or s.words (word_of k) 0)) { uses = (u + 1) % 2 ^ 64 }) }) × (r'.world ≡ accessed net r.world p (Named k)))
+      subst (λ (u : ℕ). (r' : IsReadOff v.net record { words = set s.words (word_of k) 1; homes = set s.homes k none; views = set s.views id (record (next_view v (get_or s.words (word_of k) 0)) { uses = (u + 1) % 2 ^ 64 }) }) × (r'.world ≡ machine_after_access net r.world p (Named k)))
       home.1.3 (card_out_read k named s id r at home.1.0 home.1.1 home.1.3)
 
 -- the card c, which has the uses that its party knows, goes home
 pub card_in_read : (v : View) (is : v.role ≡ Party (number_of v.role)) (k : ℕ) (holds : v.place ≡ Holding k) (s : St) (id : ℕ) (r : IsReadOff v.net s) (at : get_elem? s.views id ≡ some v) (c : Card) → c.number ≡ k → c.uses ≡ v.uses
     → (r' : IsReadOff v.net record { words = set s.words (2 * length v.net.caps + v.net.width + k) 0; homes = set s.homes k (some (Some c)); views = set s.views id (next_view v (get_or s.words (2 * length v.net.caps + v.net.width + k) 0)) })
-    × (r'.world ≡ accessed (plan v.net) r.world (number_of v.role) (Holding k))
+    × (r'.world ≡ machine_after_access (plan v.net) r.world (number_of v.role) (Holding k))
 card_in_read v is k holds s id r at c c_number c_uses =
     let p : ℕ = number_of v.role in let net : Plan = plan v.net in let w : ℕ = 2 * length v.net.caps + v.net.width + k in
     let due_is : due net p v.place ≡ Holding k = ap (due net p) holds in

@@ -3,7 +3,7 @@ use Rattle.std.proofs.Common.{◌≡◌, ◌≢◌, ◌↔◌, ℕ, ◌+◌, ◌
 use Rattle.kex_core.specs.declared.place.Place.{Place}
 use Rattle.kex_core.specs.declared.place.Place.TheVariants.{Out, Dec, Mark, Look, Spin, Naming, Named, Holding, Clearing, Inc, Unmark}
 use Rattle.kex_core.specs.Nets.{Plan}
-use Rattle.kex_core.specs.Worlds.{due, passed, value_found, after}
+use Rattle.kex_core.specs.Worlds.{due, place_past, value_found, after}
 use Rattle.kex_core.specs.Sets.{is_between, others}
 use Rattle.kex_core.specs.Shapes.{plan}
 use Rattle.kex_core.proofs.Exports.{due_placed}
@@ -32,7 +32,7 @@ enters_at p (Clearing s) is k = other_kind p (Clearing s) (ap (due (plan p.table
 enters_at p (Inc j) is k = other_kind p (Inc j) (ap (due (plan p.table.net) p.number) is) k (λ e. cc)
 enters_at p (Unmark j) is k = other_kind p (Unmark j) (ap (due (plan p.table.net) p.number) is) k (λ e. cc)
 
-passed_on : (net : Plan) (j k : ℕ) → passed net j ≢ Spin k
+passed_on : (net : Plan) (j k : ℕ) → place_past net j ≢ Spin k
 passed_on net j k = chosen (λ (q : Place). q ≢ Spin k) (eqb (net.next j) net.stages) (cond (eqb net.width 1) (Named 0) (Naming 0)) (Dec (net.next j))
     (λ _. chosen (λ (q : Place). q ≢ Spin k) (eqb net.width 1) (Named 0) (Naming 0) (λ _ z. cc) (λ _ z. cc)) (λ _ z. cc)
 
@@ -49,10 +49,10 @@ module _ (p q : Pass) (j : ℕ) (m : Moved p q) (e : due_at p ≡ Spin j) where
 
   spins_by : (q.place ≡ Spin j) ↔ (m.ruled.world.q j ≡ p.number + 1)
   spins_by =
-      let at : q.place ≡ cond (eqb (m.ruled.world.q j) (p.number + 1)) (Spin j) (passed net j) = ap (λ (x : Pass). x.place) m.now ∙ ap (λ (d : Place). after net p.number d (value_found m.ruled.world p.number d)) e in (
-        (λ (stays : q.place ≡ Spin j). chosen (λ (x : Place). x ≡ Spin j → m.ruled.world.q j ≡ p.number + 1) (eqb (m.ruled.world.q j) (p.number + 1)) (Spin j) (passed net j)
+      let at : q.place ≡ cond (eqb (m.ruled.world.q j) (p.number + 1)) (Spin j) (place_past net j) = ap (λ (x : Pass). x.place) m.now ∙ ap (λ (d : Place). after net p.number d (value_found m.ruled.world p.number d)) e in (
+        (λ (stays : q.place ≡ Spin j). chosen (λ (x : Place). x ≡ Spin j → m.ruled.world.q j ≡ p.number + 1) (eqb (m.ruled.world.q j) (p.number + 1)) (Spin j) (place_past net j)
             (λ own _. eq_from (m.ruled.world.q j) (p.number + 1) own) (λ _ on. absurd (passed_on net j j on)) (sym at ∙ stays)),
-        (λ (own : m.ruled.world.q j ≡ p.number + 1). at ∙ chosen (λ (x : Place). x ≡ Spin j) (eqb (m.ruled.world.q j) (p.number + 1)) (Spin j) (passed net j)
+        (λ (own : m.ruled.world.q j ≡ p.number + 1). at ∙ chosen (λ (x : Place). x ≡ Spin j) (eqb (m.ruled.world.q j) (p.number + 1)) (Spin j) (place_past net j)
             (λ _. refl) (λ other. absurd (ne_from (m.ruled.world.q j) (p.number + 1) other own))),
       )
 

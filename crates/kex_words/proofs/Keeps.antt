@@ -9,7 +9,7 @@ use Rattle.atomic_table.proofs.Lists.{set_else}
 use Rattle.kex_core.specs.declared.place.Place.{Place}
 use Rattle.kex_core.specs.declared.place.Place.TheVariants.{Out, Holding}
 use Rattle.kex_core.specs.Nets.{Plan}
-use Rattle.kex_core.specs.Worlds.{Machine, due, value_found, after, x_after, q_after, bit_after, card_after, accessed}
+use Rattle.kex_core.specs.Worlds.{Machine, due, value_found, after, x_after, q_after, bit_after, card_after, machine_after_access}
 use Rattle.kex_core.specs.Laws.{Placed, Kept}
 use Rattle.kex_core.specs.Costs.{cost, is_spin, kept_at}
 use Rattle.kex_core.specs.Shapes.{Sheet, plan}
@@ -20,7 +20,7 @@ use Rattle.kex_words.specs.declared.card.Card.{Card}
 use Rattle.pass_roles.specs.declared.role.Role.{Role}
 use Rattle.pass_roles.specs.declared.role.Role.TheVariants.{Maker, Party, Spent}
 use Rattle.kex_words.specs.declared.view.View.{View}
-use Rattle.kex_words.specs.Passes.{times, got_after, stepped}
+use Rattle.kex_words.specs.Passes.{times, got_after, next_pass}
 use Rattle.pass_roles.specs.Roles.{total, number_of}
 use Rattle.kex_words.specs.Rule.{took_of, weight, Standing, Fits, HasNumber, Homes, IsHome, IsAway, IsReadOff}
 use Rattle.kex_words.specs.Steps.{standing, next_view, Told}
@@ -83,22 +83,22 @@ module _ (s : St) (id : ℕ) (v : View) (r : IsReadOff v.net s) (at : get_elem? 
   there = ap (due net p) known.place_is ∙ is_due
 
   abbrev pub world' : Machine
-  world' = accessed net r.world p d
+  world' = machine_after_access net r.world p d
 
   pub kept' : Kept net world'
   kept' = kept_accessed net r.is_net.valid r.world r.kept p mine d there
 
   module _ (n : ℕ) (found_is : n ≡ value_found r.world p d) where
     -- the new place
-    pub place_is' : world'.place p ≡ (stepped (standing v) n).place
+    pub place_is' : world'.place p ≡ (next_pass (standing v) n).place
     place_is' = put_here r.world.place p (after net p d (value_found r.world p d)) ∙ (λ i. after net p (sym is_due i) (sym found_is i))
 
-    pub placed' : Placed net p (stepped (standing v) n).place
+    pub placed' : Placed net p (next_pass (standing v) n).place
     placed' = subst (Placed net p) place_is' (kept'.placed p mine)
 
-    pub firsts' : (stepped (standing v) n).firsts ≤ cost net p (stepped (standing v) n).place
+    pub firsts' : (next_pass (standing v) n).firsts ≤ cost net p (next_pass (standing v) n).place
     firsts' = ⊎_elim
-        (λ (o : after net p (due net p v.place) n ≡ Out). let z : (stepped (standing v) n).firsts ≡ 0 = ap (λ (q : Place). kept_at q (v.firsts + 1 - is_spin (due net p v.place))) o in omega arith)
+        (λ (o : after net p (due net p v.place) n ≡ Out). let z : (next_pass (standing v) n).firsts ≡ 0 = ap (λ (q : Place). kept_at q (v.firsts + 1 - is_spin (due net p v.place))) o in omega arith)
         (λ (b : v.firsts + 1 ≤ cost net p (after net p (due net p v.place) n) + is_spin (due net p v.place)). let k = kept_at_le (after net p (due net p v.place) n) (v.firsts + 1 - is_spin (due net p v.place)) in omega arith)
         (firsts_step net r.is_net.valid r.world r.kept p mine (due net p v.place) (ap (due net p) known.place_is) v.firsts n (never_out net p v.place)
         (let f = known.firsts in let e : cost net p (r.world.place p) ≡ cost net p v.place = ap (cost net p) known.place_is in omega arith))
@@ -113,7 +113,7 @@ module _ (s : St) (id : ℕ) (v : View) (r : IsReadOff v.net s) (at : get_elem? 
       stood = known.place_is;
       found_is = found_is ∙ ap (value_found r.world p) (sym is_due);
       placed = placed';
-      bounded = let f = firsts' in let b = cost_bound net r.is_net.valid p mine (stepped (standing v) n).place placed' in omega arith;
+      bounded = let f = firsts' in let b = cost_bound net r.is_net.valid p mine (next_pass (standing v) n).place placed' in omega arith;
     }
 
     module _ (u : ℕ) (ws : List ℕ) (hs : Homes) where

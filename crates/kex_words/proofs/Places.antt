@@ -3,7 +3,7 @@ use Rattle.std.proofs.Common.{◌≡◌, ◌≢◌, ℕ, ◌+◌, ◌<◌, ◌�
 use Rattle.kex_core.specs.declared.place.Place.{Place}
 use Rattle.kex_core.specs.declared.place.Place.TheVariants.{Out, Dec, Mark, Look, Spin, Naming, Named, Holding, Clearing, Inc, Unmark}
 use Rattle.kex_core.specs.Nets.{Plan, before}
-use Rattle.kex_core.specs.Worlds.{put, due, passed, back, after}
+use Rattle.kex_core.specs.Worlds.{put, due, place_past, back, after}
 use Rattle.kex_core.specs.Costs.{kept_at}
 use Rattle.kex_core.proofs.Sums.{same_or, chosen, put_at, put_else}
 
@@ -20,7 +20,7 @@ module _ (ws : List ℕ) (f : ℕ → ℕ) (at : ℕ → ℕ) (n : ℕ) (reads :
   word_else k y apart j l = get_or-set_other ws k (at j) y 0 (apart j l) ∙ reads j l
 
 module _ (net : Plan) (p : ℕ) where
-  passed_free : (j s : ℕ) → passed net j ≢ Holding s
+  passed_free : (j s : ℕ) → place_past net j ≢ Holding s
   passed_free j s = chosen (λ (q : Place). q ≢ Holding s) (eqb (net.next j) net.stages) (cond (eqb net.width 1) (Named 0) (Naming 0)) (Dec (net.next j))
       (λ _. chosen (λ (q : Place). q ≢ Holding s) (eqb net.width 1) (Named 0) (Naming 0) (λ _ z. cc) (λ _ z. cc)) (λ _ z. cc)
 
@@ -30,10 +30,10 @@ module _ (net : Plan) (p : ℕ) where
   -- only a card that is taken is held
   pub held_from : (d : Place) (n s : ℕ) → after net p d n ≡ Holding s → d ≡ Named s
   held_from Out n s e = absurd (cc)
-  held_from (Dec j) n s e = absurd (chosen (λ (q : Place). q ≢ Holding s) (eqb n 1) (Mark j) (passed net j) (λ _ z. cc) (λ _. passed_free j s) e)
+  held_from (Dec j) n s e = absurd (chosen (λ (q : Place). q ≢ Holding s) (eqb n 1) (Mark j) (place_past net j) (λ _ z. cc) (λ _. passed_free j s) e)
   held_from (Mark j) n s e = absurd (cc)
-  held_from (Look j) n s e = absurd (chosen (λ (q : Place). q ≢ Holding s) (eqb n 0) (Spin j) (passed net j) (λ _ z. cc) (λ _. passed_free j s) e)
-  held_from (Spin j) n s e = absurd (chosen (λ (q : Place). q ≢ Holding s) (eqb n (p + 1)) (Spin j) (passed net j) (λ _ z. cc) (λ _. passed_free j s) e)
+  held_from (Look j) n s e = absurd (chosen (λ (q : Place). q ≢ Holding s) (eqb n 0) (Spin j) (place_past net j) (λ _ z. cc) (λ _. passed_free j s) e)
+  held_from (Spin j) n s e = absurd (chosen (λ (q : Place). q ≢ Holding s) (eqb n (p + 1)) (Spin j) (place_past net j) (λ _ z. cc) (λ _. passed_free j s) e)
   held_from (Naming i) n s e = absurd (chosen (λ (q : Place). q ≢ Holding s) (eqb n 0) (Named i) (cond (eqb (i + 2) net.width) (Named (i + 1)) (Naming (i + 1))) (λ _ z. cc)
       (λ _. chosen (λ (q : Place). q ≢ Holding s) (eqb (i + 2) net.width) (Named (i + 1)) (Naming (i + 1)) (λ _ z. cc) (λ _ z. cc)) e)
   held_from (Named t) n s e = same t s e

@@ -5,7 +5,7 @@ use lib.ListN.{get_elem?}
 use Rattle.kex_core.specs.declared.place.Place.{Place}
 use Rattle.kex_core.specs.declared.place.Place.TheVariants.{Out, Dec, Mark, Look, Spin, Naming, Named, Holding, Clearing, Inc, Unmark}
 use Rattle.kex_core.specs.Nets.{Plan}
-use Rattle.kex_core.specs.Worlds.{due, value_found, accessed, move}
+use Rattle.kex_core.specs.Worlds.{due, value_found, machine_after_access, move}
 use Rattle.kex_core.specs.Sets.{held_at}
 use Rattle.kex_core.specs.Laws.{Safe}
 use Rattle.kex_core.specs.Shapes.{Sheet, plan}
@@ -17,7 +17,7 @@ use Rattle.pass_roles.specs.declared.role.Role.TheVariants.{Party}
 use Rattle.kex_words.specs.declared.view.View.{View}
 use Rattle.pass_roles.specs.Roles.{number_of}
 use Rattle.kex_words.specs.Rule.{IsReadOff}
-use Rattle.kex_words.specs.Passes.{Pass, due_at, stepped}
+use Rattle.kex_words.specs.Passes.{Pass, due_at, next_pass}
 use Rattle.kex_words.specs.Steps.{TableState, holding_seat}
 use Rattle.kex_words.specs.Laws.{word_at, told_by, uses_after, state_after, IsDue, Holds}
 use Rattle.kex_words.specs.Moves.{Moved, left_by}
@@ -46,7 +46,7 @@ module _ (s : TableState) (id : ℕ) (v : View) (r : IsReadOff v.net s) where
   p = number_of v.role
 
   abbrev Read : Place → Type 0
-  Read d = (next : IsReadOff v.net (state_after s id v d)) × (next.world ≡ accessed net r.world p d)
+  Read d = (next : IsReadOff v.net (state_after s id v d)) × (next.world ≡ machine_after_access net r.world p d)
 
   read_as : (d : Place) → get_elem? s.views id ≡ some v → v.role ≡ Party p → due net p v.place ≡ d → Read d
   read_as Out at is e = absurd (never_out net p v.place e)
@@ -87,8 +87,8 @@ calls p q m =
     let t = moves m.state m.seat v m.ruled d (record { sits = m.sits; party = refl; due_is = refl }) in (
       t.0,
       t.1,
-      set_at m.state.views m.seat v (holding_seat (stepped p (told_by p.number d (get_or m.state.words (word_at p.table.net d) 0))) u) m.sits
-          ∙ ap (λ (x : Pass). some (holding_seat x u)) (ap (stepped p) (told_is m.state m.seat v m.ruled d m.sits refl refl) ∙ sym m.now),
+      set_at m.state.views m.seat v (holding_seat (next_pass p (told_by p.number d (get_or m.state.words (word_at p.table.net d) 0))) u) m.sits
+          ∙ ap (λ (x : Pass). some (holding_seat x u)) (ap (next_pass p) (told_is m.state m.seat v m.ruled d m.sits refl refl) ∙ sym m.now),
     )
 
 module _ (net : Sheet) (s : TableState) (r : IsReadOff net s) where

@@ -7,7 +7,7 @@ use Rattle.atomic_table.specs.Table.{State, step, keeps, Allows}
 use Rattle.kex_core.specs.declared.place.Place.{Place}
 use Rattle.kex_core.specs.declared.place.Place.TheVariants.{Dec, Mark, Look, Spin, Named, Holding, Inc, Unmark}
 use Rattle.kex_core.specs.Nets.{Plan}
-use Rattle.kex_core.specs.Worlds.{put, due, value_found, after, x_after, q_after, bit_after, card_after, accessed}
+use Rattle.kex_core.specs.Worlds.{put, due, value_found, after, x_after, q_after, bit_after, card_after, machine_after_access}
 use Rattle.kex_core.specs.Laws.{Placed}
 use Rattle.kex_core.specs.Shapes.{plan}
 use Rattle.kex_core.proofs.Exports.{due_placed, dec_above, inc_below, x_top}
@@ -46,7 +46,7 @@ module _ (me : Self) (is : me.0.role ≡ Party (number_of me.0.role)) where
   low s id r at d is_due = due_placed net r.is_net.valid r.world r.kept p (mine s id v r at is d is_due) d (there s id v r at is d is_due)
 
   pub dec_read : (s : St) (id j : ℕ) (r : IsReadOff v.net s) (at : get_elem? s.views id ≡ some v) (is_due : due net p v.place ≡ Dec j)
-      → (r' : IsReadOff v.net record { words = set s.words (2 * j + 1) ((get_or s.words (2 * j + 1) 0 + (2 ^ 64 - 1)) % 2 ^ 64); homes = s.homes; views = set s.views id (next_view v (get_or s.words (2 * j + 1) 0)) }) × (r'.world ≡ accessed net r.world p (Dec j))
+      → (r' : IsReadOff v.net record { words = set s.words (2 * j + 1) ((get_or s.words (2 * j + 1) 0 + (2 ^ 64 - 1)) % 2 ^ 64); homes = s.homes; views = set s.views id (next_view v (get_or s.words (2 * j + 1) 0)) }) × (r'.world ≡ machine_after_access net r.world p (Dec j))
   dec_read s id j r at is_due =
       let inside : j < length v.net.caps = (low s id r at (Dec j) is_due).0 in let wide = r.wide in
       let n : ℕ = get_or s.words (2 * j + 1) 0 in let n_is : n ≡ r.world.x j = r.x_is j inside in
@@ -64,7 +64,7 @@ module _ (me : Self) (is : me.0.role ≡ Party (number_of me.0.role)) where
       (next_view v n, keeps, tt, (dec_read s id j r at is_due).0, (told s id v r at is (Dec j) is_due n (r.x_is j (low s id r at (Dec j) is_due).0), refl))
 
   pub inc_read : (s : St) (id j : ℕ) (r : IsReadOff v.net s) (at : get_elem? s.views id ≡ some v) (is_due : due net p v.place ≡ Inc j)
-      → (r' : IsReadOff v.net record { words = set s.words (2 * j + 1) ((get_or s.words (2 * j + 1) 0 + 1) % 2 ^ 64); homes = s.homes; views = set s.views id (next_view v (get_or s.words (2 * j + 1) 0)) }) × (r'.world ≡ accessed net r.world p (Inc j))
+      → (r' : IsReadOff v.net record { words = set s.words (2 * j + 1) ((get_or s.words (2 * j + 1) 0 + 1) % 2 ^ 64); homes = s.homes; views = set s.views id (next_view v (get_or s.words (2 * j + 1) 0)) }) × (r'.world ≡ machine_after_access net r.world p (Inc j))
   inc_read s id j r at is_due =
       let inside : j < length v.net.caps = (low s id r at (Inc j) is_due).0 in let wide = r.wide in
       let n : ℕ = get_or s.words (2 * j + 1) 0 in let n_is : n ≡ r.world.x j = r.x_is j inside in
@@ -83,7 +83,7 @@ module _ (me : Self) (is : me.0.role ≡ Party (number_of me.0.role)) where
   -- a word is read, and all stay as they are
   pub load_read : (d : Place) (is_due : due net p v.place ≡ d) (s : St) (id i : ℕ) (r : IsReadOff v.net s) (at : get_elem? s.views id ≡ some v) → get_or s.words i 0 ≡ value_found r.world p d
       → got_after d v.got ≡ v.got → card_after d r.world.card ≡ r.world.card → x_after d r.world.x ≡ r.world.x → q_after p d r.world.q ≡ r.world.q → bit_after d r.world.bit ≡ r.world.bit → ((k : ℕ) → d ≢ Named k)
-      → (r' : IsReadOff v.net record { words = set s.words i (get_or s.words i 0); homes = s.homes; views = set s.views id (next_view v (get_or s.words i 0)) }) × (r'.world ≡ accessed net r.world p d)
+      → (r' : IsReadOff v.net record { words = set s.words i (get_or s.words i 0); homes = s.homes; views = set s.views id (next_view v (get_or s.words i 0)) }) × (r'.world ≡ machine_after_access net r.world p d)
   load_read d is_due s id i r at n_is same_got same_card same_x same_q same_bit other = let n : ℕ = get_or s.words i 0 in
       reads_plain s id v r at is d is_due n n_is (set s.words i n) same_got same_card (free net p d n other) (length-set s.words i n)
       (λ k l. same_words s.words i (2 * k + 1) ∙ (r.x_is k l ∙ ap (λ (f : ℕ → ℕ). f k) (sym same_x)))
@@ -92,11 +92,11 @@ module _ (me : Self) (is : me.0.role ≡ Party (number_of me.0.role)) where
       (λ k l. same_words s.words i (2 * length v.net.caps + v.net.width + k) ∙ r.card_is k l)
 
   pub look_read : (s : St) (id j : ℕ) (r : IsReadOff v.net s) (at : get_elem? s.views id ≡ some v) (is_due : due net p v.place ≡ Look j)
-      → (r' : IsReadOff v.net record { words = set s.words (2 * j + 1) (get_or s.words (2 * j + 1) 0); homes = s.homes; views = set s.views id (next_view v (get_or s.words (2 * j + 1) 0)) }) × (r'.world ≡ accessed net r.world p (Look j))
+      → (r' : IsReadOff v.net record { words = set s.words (2 * j + 1) (get_or s.words (2 * j + 1) 0); homes = s.homes; views = set s.views id (next_view v (get_or s.words (2 * j + 1) 0)) }) × (r'.world ≡ machine_after_access net r.world p (Look j))
   look_read s id j r at is_due = load_read (Look j) is_due s id (2 * j + 1) r at (r.x_is j (low s id r at (Look j) is_due).0) refl refl refl refl refl (λ k e. cc)
 
   pub spin_read : (s : St) (id j : ℕ) (r : IsReadOff v.net s) (at : get_elem? s.views id ≡ some v) (is_due : due net p v.place ≡ Spin j)
-      → (r' : IsReadOff v.net record { words = set s.words (2 * j + 2) (get_or s.words (2 * j + 2) 0); homes = s.homes; views = set s.views id (next_view v (get_or s.words (2 * j + 2) 0)) }) × (r'.world ≡ accessed net r.world p (Spin j))
+      → (r' : IsReadOff v.net record { words = set s.words (2 * j + 2) (get_or s.words (2 * j + 2) 0); homes = s.homes; views = set s.views id (next_view v (get_or s.words (2 * j + 2) 0)) }) × (r'.world ≡ machine_after_access net r.world p (Spin j))
   spin_read s id j r at is_due = load_read (Spin j) is_due s id (2 * j + 2) r at (r.q_is j (low s id r at (Spin j) is_due).0) refl refl refl refl refl (λ k e. cc)
 
   pub looks : (slots id j : ℕ) → due net p v.place ≡ Look j → Allows (IsReadOff v.net) slots id me (2 * j + 1) (λ n. n) (moves_no_card (step slots (2 * j + 1) 0 0 none) me)
@@ -108,7 +108,7 @@ module _ (me : Self) (is : me.0.role ≡ Party (number_of me.0.role)) where
   -- the party's number is written into a spin word
   name_read : (d : Place) (is_due : due net p v.place ≡ d) (s : St) (id j : ℕ) (r : IsReadOff v.net s) (at : get_elem? s.views id ≡ some v) → j < length v.net.caps → p + 1 ≡ value_found r.world p d
       → got_after d v.got ≡ v.got → card_after d r.world.card ≡ r.world.card → x_after d r.world.x ≡ r.world.x → q_after p d r.world.q ≡ put r.world.q j (p + 1) → bit_after d r.world.bit ≡ r.world.bit → ((k : ℕ) → d ≢ Named k)
-      → (r' : IsReadOff v.net record { words = set s.words (2 * j + 2) (p + 1); homes = s.homes; views = set s.views id (next_view v (p + 1)) }) × (r'.world ≡ accessed net r.world p d)
+      → (r' : IsReadOff v.net record { words = set s.words (2 * j + 2) (p + 1); homes = s.homes; views = set s.views id (next_view v (p + 1)) }) × (r'.world ≡ machine_after_access net r.world p d)
   name_read d is_due s id j r at inside n_is same_got same_card same_x new_q same_bit other = let i : ℕ = 2 * j + 2 in let n : ℕ = p + 1 in let wide = r.wide in
       reads_plain s id v r at is d is_due n n_is (set s.words i n) same_got same_card (free net p d n other) (length-set s.words i n)
       (λ k l. word_else s.words r.world.x (λ i. 2 * i + 1) (length v.net.caps) r.x_is (2 * j + 2) n (λ i _ e. omega arith) k l ∙ ap (λ (f : ℕ → ℕ). f k) (sym same_x))
@@ -117,11 +117,11 @@ module _ (me : Self) (is : me.0.role ≡ Party (number_of me.0.role)) where
       (λ k l. get_or-set_other s.words i (2 * length v.net.caps + v.net.width + k) n 0 (λ e. omega arith) ∙ r.card_is k l)
 
   pub mark_read : (s : St) (id j : ℕ) (r : IsReadOff v.net s) (at : get_elem? s.views id ≡ some v) (is_due : due net p v.place ≡ Mark j)
-      → (r' : IsReadOff v.net record { words = set s.words (2 * j + 2) (p + 1); homes = s.homes; views = set s.views id (next_view v (p + 1)) }) × (r'.world ≡ accessed net r.world p (Mark j))
+      → (r' : IsReadOff v.net record { words = set s.words (2 * j + 2) (p + 1); homes = s.homes; views = set s.views id (next_view v (p + 1)) }) × (r'.world ≡ machine_after_access net r.world p (Mark j))
   mark_read s id j r at is_due = name_read (Mark j) is_due s id j r at (low s id r at (Mark j) is_due).0 refl refl refl refl refl refl (λ k e. cc)
 
   pub unmark_read : (s : St) (id j : ℕ) (r : IsReadOff v.net s) (at : get_elem? s.views id ≡ some v) (is_due : due net p v.place ≡ Unmark j)
-      → (r' : IsReadOff v.net record { words = set s.words (2 * j + 2) (p + 1); homes = s.homes; views = set s.views id (next_view v (p + 1)) }) × (r'.world ≡ accessed net r.world p (Unmark j))
+      → (r' : IsReadOff v.net record { words = set s.words (2 * j + 2) (p + 1); homes = s.homes; views = set s.views id (next_view v (p + 1)) }) × (r'.world ≡ machine_after_access net r.world p (Unmark j))
   unmark_read s id j r at is_due = name_read (Unmark j) is_due s id j r at (low s id r at (Unmark j) is_due).0 refl refl refl refl refl refl (λ k e. cc)
 
   pub marks : (slots id j : ℕ) → due net p v.place ≡ Mark j → Allows (IsReadOff v.net) slots id me (2 * j + 2) (λ _. p + 1) (λ _. moves_no_card (step slots (2 * j + 2) (p + 1) 0 none) me (p + 1))

@@ -5,7 +5,7 @@ use lib.ListN.{get_elem?}
 use Rattle.kex_core.specs.Worlds.{value_found}
 use Rattle.kex_core.specs.Costs.{bound}
 use Rattle.kex_core.specs.Shapes.{plan}
-use Rattle.kex_words.specs.Passes.{Pass, due_at, stepped}
+use Rattle.kex_words.specs.Passes.{Pass, due_at, next_pass}
 use Rattle.kex_words.specs.Rule.{IsReadOff}
 use Rattle.kex_words.specs.Steps.{TableState, holding_seat}
 use Rattle.kex_words.specs.Laws.{state_after}
@@ -22,7 +22,7 @@ pub record Moved (p q : Pass) : Type 0 where
   -- in that world the party stands at the pass's place, and the access that is due there leads it on
   pub inside : p.number < p.table.net.parties
   pub stood : ruled.world.place p.number ≡ p.place
-  pub now : q ≡ stepped p (value_found ruled.world p.number (due_at p))
+  pub now : q ≡ next_pass p (value_found ruled.world p.number (due_at p))
   pub bounded : q.firsts ≤ bound (plan q.table.net) q.number q.place
 
 -- the table's state as the access left it

@@ -88,8 +88,8 @@ got_after (Inc j) l = l
 got_after (Unmark j) l = l
 
 -- the pass, once the access that is due has led to the place a
-abbrev pub arrived : Pass → Place → Pass
-arrived p a = record {
+abbrev pub pass_led_to : Pass → Place → Pass
+pass_led_to p a = record {
   table = p.table;
   number = p.number;
   place = a;
@@ -99,8 +99,8 @@ arrived p a = record {
 }
 
 -- the pass after the access that is due, which found n
-abbrev pub stepped : Pass → ℕ → Pass
-stepped p n = arrived p (after (plan p.table.net) p.number (due_at p) n)
+abbrev pub next_pass : Pass → ℕ → Pass
+next_pass p n = pass_led_to p (after (plan p.table.net) p.number (due_at p) n)
 
 -- how often x stands in a list
 abbrev pub times : ℕ → List ℕ → ℕ
@@ -127,8 +127,8 @@ abbrev pub counted_card : List ℕ → ℕ → Card
 counted_card got s = record { number = s; uses = times s got % 2 ^ 64 }
 
 -- a pass that was never used
-abbrev pub unused : TableNet → ℕ → Pass
-unused t p = record { table = t; number = p; place = Out; firsts = 0; spins = 0; got = [] }
+abbrev pub unused_pass : TableNet → ℕ → Pass
+unused_pass t p = record { table = t; number = p; place = Out; firsts = 0; spins = 0; got = [] }
 
 -- a card that was never used
 abbrev pub unused_card : ℕ → Card

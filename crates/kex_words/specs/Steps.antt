@@ -13,7 +13,7 @@ use Rattle.kex_core.specs.Shapes.{Sheet, plan}
 use Rattle.kex_words.specs.declared.card.Card.{Card}
 use Rattle.pass_roles.specs.declared.role.Role.TheVariants.{Maker, Party, Spent}
 use Rattle.kex_words.specs.declared.view.View.{View}
-use Rattle.kex_words.specs.Passes.{Pass, Held, TakenIn, due_at, stepped}
+use Rattle.kex_words.specs.Passes.{Pass, Held, TakenIn, due_at, next_pass}
 use Rattle.pass_roles.specs.Roles.{made_of, number_of, total}
 use Rattle.kex_words.specs.Rule.{took_of, IsReadOff}
 
@@ -86,12 +86,12 @@ abbrev pub standing : View → Pass
 standing v = pass_of no_table v
 
 -- the view, where its pass has become p
-abbrev pub revised : View → Pass → View
-revised v p = record v { place = p.place; firsts = p.firsts; spins = p.spins; got = p.got; uses = 0 }
+abbrev pub view_with_pass : View → Pass → View
+view_with_pass v p = record v { place = p.place; firsts = p.firsts; spins = p.spins; got = p.got; uses = 0 }
 
 -- the view after an access that found n
 abbrev pub next_view : View → ℕ → View
-next_view v n = revised v (stepped (standing v) n)
+next_view v n = view_with_pass v (next_pass (standing v) n)
 
 -- what is known of the access of a party's view, which found n: the state that it met, and where it leads
 pub record Told (v : View) (n : ℕ) : Type 0 where
@@ -102,8 +102,8 @@ pub record Told (v : View) (n : ℕ) : Type 0 where
   pub inside : number_of v.role < v.net.parties
   pub stood : ruled.world.place (number_of v.role) ≡ v.place
   pub found_is : n ≡ value_found ruled.world (number_of v.role) (due_at (standing v))
-  pub placed : Placed (plan v.net) (number_of v.role) (stepped (standing v) n).place
-  pub bounded : (stepped (standing v) n).firsts ≤ bound (plan v.net) (number_of v.role) (stepped (standing v) n).place
+  pub placed : Placed (plan v.net) (number_of v.role) (next_pass (standing v) n).place
+  pub bounded : (next_pass (standing v) n).firsts ≤ bound (plan v.net) (number_of v.role) (next_pass (standing v) n).place
 
 -- an access that moves no card
 abbrev pub moves_no_card : Step (Option Card) → Self → ℕ → Self → Type 0

@@ -1,6 +1,6 @@
 //! The making of a table.
 ghost use Rattle.std.specs.Prelude.{◌≡◌, ◌≤◌, [], Some, IfOk, EachIndex, vec_len, vec_capacity, slice_get};
-ghost use Rattle.kex_words.specs.Passes.{OpensWords, unused, unused_card};
+ghost use Rattle.kex_words.specs.Passes.{OpensWords, unused_pass, unused_card};
 ghost use Rattle.kex_words.specs.Steps.{maker};
 
 use crate::card::Card;
@@ -19,7 +19,7 @@ impl KexTable {
     pub fn make(alloc: Global, net: Net) -> Result<(KexTable, Vec<Out>), NoMemory>
         ensures net { IfOk result (λ r. r.0.net ≡ net) }
         ensures count { IfOk result (λ r. vec_len r.1 ≡ net.parties) }
-        ensures passes { IfOk result (λ r. EachIndex r.1.items (λ i. slice_get r.1.items i ≡ Some (unused r.0 i))) }
+        ensures passes { IfOk result (λ r. EachIndex r.1.items (λ i. slice_get r.1.items i ≡ Some (unused_pass r.0 i))) }
     {
         let words = opening_words(alloc, &net)?;
         let slots = card_slots(alloc, net.width())?;
@@ -40,7 +40,7 @@ impl KexTable {
         requires opens { seat.old.me ≡ (maker self.now.net 0, []) }
         requires room { (passes.old.items ≡ []) × (self.now.net.parties ≤ vec_capacity passes.old) }
         ensures count { vec_len passes.new ≡ self.now.net.parties }
-        ensures dealt { EachIndex passes.new.items (λ i. slice_get passes.new.items i ≡ Some (unused self.now i)) }
+        ensures dealt { EachIndex passes.new.items (λ i. slice_get passes.new.items i ≡ Some (unused_pass self.now i)) }
     {
         for number in 0..self.net.parties() {
             let other = self.table.shared.split_seat::<Deal>(seat);

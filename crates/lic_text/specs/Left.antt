@@ -10,5 +10,5 @@ abbrev pub words_left : Words → List (List ℕ)
 words_left s = words_of s.text.now ++ words_of (joined_text (physical_lines s.further.now))
 
 -- a line as its number and its words
-abbrev pub worded : Line → Worded
-worded line = (line.first, words_of (joined_text (physical_lines line.from.now)))
+abbrev pub worded_line : Line → Worded
+worded_line line = (line.first, words_of (joined_text (physical_lines line.from.now)))

@@ -12,18 +12,18 @@ pub struct Line<'a> {
 }
 
 impl<'a> Line<'a> {
-    ghost use Rattle.lic_text.specs.Left.{worded, words_left};
+    ghost use Rattle.lic_text.specs.Left.{worded_line, words_left};
 
     /// The number of its first physical line, counted from 1.
     pub fn first(&self) -> u32
-        ensures { result ≡ (worded self.now).0 }
+        ensures { result ≡ (worded_line self.now).0 }
     {
         self.first
     }
 
     /// Its words in order, each a slice of the file: the longest runs of bytes that are neither space nor tab.
     pub fn words(&self) -> Words<'a>
-        ensures { words_left result ≡ (worded self.now).1 }
+        ensures { words_left result ≡ (worded_line self.now).1 }
     {
         Words {
             text: &[],
@@ -32,7 +32,7 @@ impl<'a> Line<'a> {
     }
 
     pub(crate) fn has_words(&self) -> bool
-        ensures { result ≡ not (is_empty (worded self.now).1) }
+        ensures { result ≡ not (is_empty (worded_line self.now).1) }
     {
         self.words().next().is_some()
     }

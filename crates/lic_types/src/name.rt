@@ -1,6 +1,6 @@
 ghost use Rattle.std.specs.Prelude.{◌≡◌, ◌<◌, ◌≤◌, IfSome, length, not};
 ghost use Rattle.std.specs.List.{position_from};
-ghost use Rattle.lic_types.specs.Name.{IsName, filled, is_name_byte, name_of};
+ghost use Rattle.lic_types.specs.Name.{IsName, filled_room, is_name_byte, name_of};
 
 use std::cmp::Ordering;
 use std::fmt;
@@ -130,7 +130,7 @@ fn first_bad(word: &[u8]) -> Option<usize>
 /// The word, and zeros after it.
 fn room_of(word: &[u8]) -> [u8; 64]
     requires { length word.now ≤ 64 }
-    ensures { result ≡ filled word.now }
+    ensures { result ≡ filled_room word.now }
 {
     let mut room = [0u8; 64];
     room[..word.len()].copy_from_slice(word);

@@ -12,20 +12,20 @@ use Rattle.options_machine.specs.declared.reply.Entry.{Entry}
 use Rattle.stat_board.specs.Fronts.{the_first}
 use Rattle.licence_office.specs.declared.closing.OfficeEnd.{OfficeEnd}
 use Rattle.licence_office.specs.declared.logs.DeskEnd.{DeskEnd}
-use Rattle.licence_office.specs.Logs.{HaveGrown, untouched}
+use Rattle.licence_office.specs.Logs.{HaveGrown, untouched_keeper}
 use Rattle.licence_office.specs.Rooms.{AreEnds, AreTaken, HasPlace, HasRoom, taken_at}
 
 abbrev keeper_of : DeskEnd → DeskKeeperView
-keeper_of e = untouched e.keeper
+keeper_of e = untouched_keeper e.keeper
 
 abbrev room_of : DeskEnd → Vec Sitter Global
 room_of e = e.room
 
 -- a keeper is of the same desk whatever was taken
-was_of : (k : DeskKeeperView) (d : DeskView) → IsKeeperOf k d → IsKeeperOf (untouched k) d
+was_of : (k : DeskKeeperView) (d : DeskView) → IsKeeperOf k d → IsKeeperOf (untouched_keeper k) d
 was_of k d h = record { queue = h.queue; book_room = h.book_room; room = h.room; seats = h.seats }
 
-still_of : (k : DeskKeeperView) (d : DeskView) → IsKeeperOf (untouched k) d → IsKeeperOf k d
+still_of : (k : DeskKeeperView) (d : DeskView) → IsKeeperOf (untouched_keeper k) d → IsKeeperOf k d
 still_of k d h = record { queue = h.queue; book_room = h.book_room; room = h.room; seats = h.seats }
 
 -- the ends of the desks of an office, in its logs
@@ -41,7 +41,7 @@ module _ (desks : List DeskView) (ends : List DeskEnd) (n : ℕ) where
             let within : j < length ends = omega (arith, lt, long) in
             let x : DeskEnd = get_or ends j e in
             let place : HasPlace n x = places j e within in
-            let keeper : IsKeeperOf (untouched x.keeper) (get_or desks j d)
+            let keeper : IsKeeperOf (untouched_keeper x.keeper) (get_or desks j d)
             = subst (λ (z : DeskKeeperView). IsKeeperOf z (get_or desks j d)) (get_or-map keeper_of ends j e (keeper_of e) within) (keepers j (keeper_of e) d lt) in
             record { parties = parties j d lt; keeper = still_of x.keeper (get_or desks j d) keeper; empty = place.empty; room = place.room };
       }
@@ -118,7 +118,7 @@ module _ (old now : List DeskEnd) (i : ℕ) (d is : DeskEnd) (within : i < lengt
   abbrev was : DeskEnd
   was = get_or now i d
 
-  pub taken_more : AreTaken old now → untouched is.keeper ≡ untouched was.keeper → is.room ≡ was.room → Extends (taken_at was) (taken_at is) → AreTaken old (set now i is)
+  pub taken_more : AreTaken old now → untouched_keeper is.keeper ≡ untouched_keeper was.keeper → is.room ≡ was.room → Extends (taken_at was) (taken_at is) → AreTaken old (set now i is)
   taken_more t keeper room more = record {
     keepers = map-set_same keeper_of now i is d keeper ∙ t.keepers;
     rooms = map-set_same room_of now i is d room ∙ t.rooms;

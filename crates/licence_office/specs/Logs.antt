@@ -13,8 +13,8 @@ pub record LogsSeen : Type 0 where
   pub parties : ℕ
 
 -- a keeper as it was before anything was taken
-abbrev pub untouched : DeskKeeperView → DeskKeeperView
-untouched k = record { book = record { queue = k.book.queue; taken = []; room = k.book.room }; room = k.room; seats = k.seats }
+abbrev pub untouched_keeper : DeskKeeperView → DeskKeeperView
+untouched_keeper k = record { book = record { queue = k.book.queue; taken = []; room = k.book.room }; room = k.room; seats = k.seats }
 
 -- the logs are those of this office: they have the keeper of each desk's log, in order, and are for its parties
 pub record AreLogsOf (l : LogsSeen) (o : OfficeSeen) : Type 0 where

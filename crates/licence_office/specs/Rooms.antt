@@ -7,7 +7,7 @@ use Rattle.licence_office.specs.declared.closing.OfficeEnd.{OfficeEnd}
 use Rattle.licence_office.specs.declared.logs.DeskEnd.{DeskEnd}
 use Rattle.licence_office.specs.declared.logs.OfficeLogs.TheInside as Logs
 use Rattle.licence_office.specs.declared.office.Office.TheInside as Desks
-use Rattle.licence_office.specs.Logs.{HaveGrown, untouched}
+use Rattle.licence_office.specs.Logs.{HaveGrown, untouched_keeper}
 
 -- what the end of a desk of n parties takes: its keeper, and room for their passes
 pub record IsEndOf (n : ℕ) (d : DeskView) (e : DeskEnd) : Type 0 where
@@ -48,6 +48,6 @@ taken_at e = e.keeper.book.taken
 
 -- more may have been taken, and all else is as it was
 pub record AreTaken (old new : List DeskEnd) : Type 0 where
-  pub keepers : map (λ (e : DeskEnd). untouched e.keeper) new ≡ map (λ (e : DeskEnd). untouched e.keeper) old
+  pub keepers : map (λ (e : DeskEnd). untouched_keeper e.keeper) new ≡ map (λ (e : DeskEnd). untouched_keeper e.keeper) old
   pub rooms : map (λ (e : DeskEnd). e.room) new ≡ map (λ (e : DeskEnd). e.room) old
   pub grown : HaveGrown (map taken_at old) (map taken_at new)

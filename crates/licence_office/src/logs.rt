@@ -1,7 +1,7 @@
 //! The logs of an office's desks, while its sessions run.
 ghost use Rattle.std.specs.Prelude.{◌≡◌, ◌+◌, ◌∷◌, ◌++◌, [], MatchBool, length, map, sum_by};
 ghost use Rattle.options_machine.specs.declared.reply.Entry.{Entry};
-ghost use Rattle.licence_office.specs.Logs.{HaveGrown, untouched};
+ghost use Rattle.licence_office.specs.Logs.{HaveGrown, untouched_keeper};
 ghost use Rattle.licence_office.specs.Rooms.{AreTaken, taken_at};
 
 use crate::closing::OfficeEnd;
@@ -24,7 +24,7 @@ impl DeskEnd {
     /// Takes the next entry out of the queue of the desk's log, and says whether there was one.
     fn take<R: Wait>(&mut self, rt: &R) -> bool
         ensures taken { MatchBool result ((x : Entry) × (taken_at self.new ≡ taken_at self.old ++ x ∷ [])) (taken_at self.new ≡ taken_at self.old) }
-        ensures keeper { untouched self.new.keeper ≡ untouched self.old.keeper }
+        ensures keeper { untouched_keeper self.new.keeper ≡ untouched_keeper self.old.keeper }
         ensures room { self.new.room ≡ self.old.room }
     {
         self.keeper.take(rt)
@@ -67,12 +67,12 @@ pub struct OfficeLogs {
 
 impl Model for OfficeLogs {
     ghost use Rattle.std.specs.Prelude.{map};
-    ghost use Rattle.licence_office.specs.Logs.{LogsSeen, untouched};
+    ghost use Rattle.licence_office.specs.Logs.{LogsSeen, untouched_keeper};
     ghost use Rattle.licence_office.specs.Rooms.{HasEnds, taken_at};
 
     ghost Value = { LogsSeen };
 
-    ghost view = { λ l. record { keepers = map (λ e. untouched e.keeper) l.ends.items; taken = map taken_at l.ends.items; parties = l.parties } };
+    ghost view = { λ l. record { keepers = map (λ e. untouched_keeper e.keeper) l.ends.items; taken = map taken_at l.ends.items; parties = l.parties } };
 
     ghost invariant = { HasEnds };
 }

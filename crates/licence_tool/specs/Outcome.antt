@@ -32,13 +32,13 @@ bytes_or_status position None = Err (ReadFault position)
 bytes_or_status position (Some bytes) = if nat_lt 1048576 (length bytes) then Err (FileTooLong position) else Ok bytes
 
 -- what a file says, or the status of its fault
-abbrev pub accepted : {X E : Type 0} → (E → Status) → Result X E → Result X Status
-accepted refused (Ok x) = Ok x
-accepted refused (Err fault) = Err (refused fault)
+abbrev pub value_or_status : {X E : Type 0} → (E → Status) → Result X E → Result X Status
+value_or_status refused (Ok x) = Ok x
+value_or_status refused (Err fault) = Err (refused fault)
 
 -- the licence file, which is the first
 unfoldable pub licence_heard : Bytes → Result Contents Status
-licence_heard reading = bytes_or_status 1 reading >>= λ bytes. accepted Licence (licence_of bytes)
+licence_heard reading = bytes_or_status 1 reading >>= λ bytes. value_or_status Licence (licence_of bytes)
 
 -- the position of the options file of a rule set: OPTIONS has number 0 and stands second, the further ones stand behind the third file
 abbrev pub position_of_set : ℕ → ℕ
@@ -50,15 +50,15 @@ options_status set fault = if set == 0 then Options fault else MoreOptions set f
 
 -- the options file of the rule set of this number
 unfoldable pub options_heard : ℕ → Bytes → Result OptionsFile Status
-options_heard set reading = bytes_or_status (position_of_set set) reading >>= λ bytes. accepted (options_status set) (options_of bytes)
+options_heard set reading = bytes_or_status (position_of_set set) reading >>= λ bytes. value_or_status (options_status set) (options_of bytes)
 
 -- the script, which is the third file
 unfoldable pub script_heard : Bytes → Result (List ScriptLine) Status
-script_heard reading = bytes_or_status 3 reading >>= λ bytes. accepted Script (script_of bytes)
+script_heard reading = bytes_or_status 3 reading >>= λ bytes. value_or_status Script (script_of bytes)
 
 -- the entries of the log, which is the third file, at so many pools
 unfoldable pub log_heard : ℕ → Bytes → Result (List Numbered) Status
-log_heard pools reading = bytes_or_status 3 reading >>= λ bytes. accepted Script (log_of pools bytes)
+log_heard pools reading = bytes_or_status 3 reading >>= λ bytes. value_or_status Script (log_of pools bytes)
 
 -- the options of these rule sets, and behind them those of the further options files, each of which is of the rule set whose number is how many stand before it
 unfoldable pub sets_heard : List OptionsFile → List Bytes → Result (List OptionsFile) Status

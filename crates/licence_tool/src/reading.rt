@@ -7,7 +7,7 @@ ghost use Rattle.options_text.specs.Options.{OptionsFile};
 ghost use Rattle.log_audit.specs.Log.{is_fit as is_fit_at};
 ghost use Rattle.script_text.specs.Fits.{is_fit};
 ghost use Rattle.licence_tool.specs.Asked.{Asks, HasFailed, IsOf};
-ghost use Rattle.licence_tool.specs.Outcome.{accepted, bytes_or_status, licence_heard, log_heard, options_heard, options_status, position_of_set, script_heard, sets_heard};
+ghost use Rattle.licence_tool.specs.Outcome.{value_or_status, bytes_or_status, licence_heard, log_heard, options_heard, options_status, position_of_set, script_heard, sets_heard};
 ghost use Rattle.licence_tool.specs.Tool.{AreHeard, IsHeard, RefusalSays, status_of};
 
 use crate::status::Status;
@@ -45,7 +45,7 @@ fn read_file<F: Files>(
 /// The status for the fault of a licence.
 fn licence_status(fault: LicenceFault) -> Status
     ensures file { IsOf 1 result }
-    ensures says { (licence : Result Contents LicenceFault) → IsFaultOf licence_fault licence fault → RefusalSays ⊥ (accepted Status.Licence licence) result }
+    ensures says { (licence : Result Contents LicenceFault) → IsFaultOf licence_fault licence fault → RefusalSays ⊥ (value_or_status Status.Licence licence) result }
 {
     match fault {
         LicenceFault::NoMemory => Status::NoMemory,
@@ -56,7 +56,7 @@ fn licence_status(fault: LicenceFault) -> Status
 /// The status for the fault of the options file of a rule set.
 fn options_status(set: u8, fault: OptionsFault) -> Status
     ensures file { IsOf (position_of_set set) result }
-    ensures says { (options : Result OptionsFile OptionsFault) → IsFaultOf options_fault options fault → RefusalSays ⊥ (accepted (options_status set) options) result }
+    ensures says { (options : Result OptionsFile OptionsFault) → IsFaultOf options_fault options fault → RefusalSays ⊥ (value_or_status (options_status set) options) result }
 {
     match fault {
         OptionsFault::NoMemory => Status::NoMemory,

@@ -120,9 +120,9 @@ asked_of verb.Quit words = and_then (last_of words) (λ none. Ok wire.Quit)
 asked_of verb.Shutdown words = and_then (last_of words) (λ none. Ok wire.Shutdown)
 
 -- what words ask
-abbrev pub worded : List (List ℕ) → Result Wire WireFault
-worded [] = Err Empty
-worded (word ∷ words) = and_then (verb_of word) (λ v. asked_of v words)
+abbrev pub wire_of_words : List (List ℕ) → Result Wire WireFault
+wire_of_words [] = Err Empty
+wire_of_words (word ∷ words) = and_then (verb_of word) (λ v. asked_of v words)
 
 -- a byte from 32 to 126
 abbrev pub is_request_byte : ℕ → Bool
@@ -130,4 +130,4 @@ is_request_byte b = nat_le 32 b && nat_le b 126
 
 -- what a line asks, or its first fault; where its bytes are from 32 to 126, its words are its longest runs of bytes other than space
 abbrev pub request_of : List ℕ → Result Wire WireFault
-request_of line = if list_all is_request_byte line then worded (words_of line) else Err BadByte
+request_of line = if list_all is_request_byte line then wire_of_words (words_of line) else Err BadByte

@@ -5,7 +5,7 @@ ghost use Rattle.lic_text.specs.Left.{words_left};
 ghost use Rattle.lic_text.specs.Number.{number_of};
 ghost use Rattle.lic_types.specs.Name.{name_of};
 ghost use Rattle.lic_types.specs.Version.{key_of};
-ghost use Rattle.line_protocol.specs.Requests.{asked_of, client_of, feature_of, is_request_byte, last_of, name_or_fault, request_of, seat_of, set_of, set_within, verb_of, version_of, worded};
+ghost use Rattle.line_protocol.specs.Requests.{asked_of, client_of, feature_of, is_request_byte, last_of, name_or_fault, request_of, seat_of, set_of, set_within, verb_of, version_of, wire_of_words};
 
 use crate::wire::{Wire, WireFault};
 use lic_text::{Words, number, words_in};
@@ -233,7 +233,7 @@ fn is_printable(line: &[u8]) -> bool
 
 /// What words ask.
 fn read_words(words: Words<'_>) -> Result<Wire, WireFault>
-    ensures { result ≡ worded (words_left words.entry) }
+    ensures { result ≡ wire_of_words (words_left words.entry) }
 {
     let mut words = words;
     let Some(verb) = words.next() else {

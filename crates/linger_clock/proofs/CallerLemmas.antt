@@ -3,15 +3,15 @@ use Rattle.std.proofs.Common.{◌≡◌, ℕ, ◌+◌, Bool, true, false, true�
 use Rattle.std.proofs.lemmas.Bool.Decides.{nat_tests}
 use Rattle.linger_clock.specs.declared.Deadline.{Deadline}
 use Rattle.linger_clock.specs.declared.tree.Order.TheVariants.{ByMoment}
-use Rattle.linger_clock.specs.Deadlines.{is_of, is_due, until_of, without, placed, IsInOrder, HasDistinctOwners}
+use Rattle.linger_clock.specs.Deadlines.{is_of, is_due, until_of, without, with_deadline, IsInOrder, HasDistinctOwners}
 use Rattle.linger_clock.proofs.Pairs.{placed-put, length-put, without_absent}
 use Rattle.linger_clock.proofs.Keeping as keeping
 
 -- after `add`, the owner's moment is the new one, and each other owner's is as before
-pub until_of-placed : (d : Deadline) (q : ℕ) (ds : List Deadline) → IsInOrder ds → IsNone (until_of d.owner ds) → until_of q (placed d ds) ≡ cond (is_of q d) (Some d.until) (until_of q ds)
+pub until_of-placed : (d : Deadline) (q : ℕ) (ds : List Deadline) → IsInOrder ds → IsNone (until_of d.owner ds) → until_of q (with_deadline d ds) ≡ cond (is_of q d) (Some d.until) (until_of q ds)
 until_of-placed d q ds s h = ap (until_of q) (placed-put d ds s h ∙ sym (keeping.ranked_in-put d ds)) ∙ keeping.until_of-ranked_in ByMoment d q ds h
 
-pub length-placed : (d : Deadline) (ds : List Deadline) → IsInOrder ds → IsNone (until_of d.owner ds) → length (placed d ds) ≡ length ds + 1
+pub length-placed : (d : Deadline) (ds : List Deadline) → IsInOrder ds → IsNone (until_of d.owner ds) → length (with_deadline d ds) ≡ length ds + 1
 length-placed d ds s h = ap length (placed-put d ds s h) ∙ length-put d ds
 
 -- after `remove` and `settle`, the owner has none, and each other owner's moment is as before

@@ -6,7 +6,7 @@ use Rattle.std.proofs.lemmas.List.Elements.{filter_agree}
 use Rattle.linger_clock.specs.declared.Deadline.{Deadline}
 use Rattle.linger_clock.specs.declared.tree.Order.{Order}
 use Rattle.linger_clock.specs.declared.tree.Order.TheVariants.{ByMoment, ByOwner}
-use Rattle.linger_clock.specs.Deadlines.{is_before, is_of, is_due, until_of, without, placed, AllAfter, IsInOrder, HasDistinctOwners}
+use Rattle.linger_clock.specs.Deadlines.{is_before, is_of, is_due, until_of, without, with_deadline, AllAfter, IsInOrder, HasDistinctOwners}
 use Rattle.linger_clock.specs.Ranks.{comes_before, ties, AllFollow, IsRanked, ranked_in}
 use Rattle.linger_clock.specs.Kept.{IsKept}
 use Rattle.linger_clock.proofs.Pairs.{put, placed-put, IsClock-placed, IsClock-without}
@@ -143,7 +143,7 @@ length-without owner [] s h = absurd (true≢false (sym h))
 length-without owner (d ∷ ds) s h = grind (arith, nat_tests, s.0, length_absent owner ds, length-without owner ds s.1)
 
 -- an owner that neither has gets a deadline in both
-pub added_moment : (room : ℕ) (d : Deadline) (ds os : List Deadline) {spare capacity : ℕ} → IsKept room ds os spare capacity → IsNone (until_of d.owner ds) → ranked_in ByMoment d ds ≡ placed d ds
+pub added_moment : (room : ℕ) (d : Deadline) (ds os : List Deadline) {spare capacity : ℕ} → IsKept room ds os spare capacity → IsNone (until_of d.owner ds) → ranked_in ByMoment d ds ≡ with_deadline d ds
 added_moment room d ds os k h = ranked_in-put d ds ∙ sym (placed-put d ds k.sound.in_order h)
 
 none_found : (r : Option Deadline) → IsNone (option_map (λ d. d.until) r) → r ≡ None

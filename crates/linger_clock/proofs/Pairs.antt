@@ -5,7 +5,7 @@ use Rattle.std.specs.List.{All}
 use Rattle.std.proofs.lemmas.List.Elements.{All-nil, All-cons}
 use Rattle.std.proofs.lemmas.Bool.Decides.{nat_tests}
 use Rattle.linger_clock.specs.declared.Deadline.{Deadline}
-use Rattle.linger_clock.specs.Deadlines.{is_before, is_of, is_due, until_of, without, placed, AllAfter, IsInOrder, HasDistinctOwners, IsClock}
+use Rattle.linger_clock.specs.Deadlines.{is_before, is_of, is_due, until_of, without, with_deadline, AllAfter, IsInOrder, HasDistinctOwners, IsClock}
 use Rattle.linger_clock.proofs.Before.{due_no_later, before_trans, before_not_back, before_or_after}
 
 -- d in front of the first that comes after it
@@ -53,11 +53,11 @@ filter_after_all : (d : Deadline) (ds : List Deadline) → AllAfter d ds → fil
 filter_after_all d [] a = refl
 filter_after_all d (e ∷ es) a = rw a.0 (ap (λ xs. e ∷ xs) (filter_after_all d es a.1))
 
-pub placed-put : (d : Deadline) (ds : List Deadline) → IsInOrder ds → IsNone (until_of d.owner ds) → placed d ds ≡ put d ds
+pub placed-put : (d : Deadline) (ds : List Deadline) → IsInOrder ds → IsNone (until_of d.owner ds) → with_deadline d ds ≡ put d ds
 placed-put d [] s h = refl
 placed-put d (e ∷ es) s h = by (is_before d e) refl (placed-put d es s.1)
   where
-    by : (b : Bool) → is_before d e ≡ b → (IsNone (until_of d.owner es) → placed d es ≡ put d es) → placed d (e ∷ es) ≡ put d (e ∷ es)
+    by : (b : Bool) → is_before d e ≡ b → (IsNone (until_of d.owner es) → with_deadline d es ≡ put d es) → with_deadline d (e ∷ es) ≡ put d (e ∷ es)
     by true first rest =
         rw (first, before_not_back d e first)
         (rw (filter_before_none d es (after_later d e es first s.0), filter_after_all d es (after_later d e es first s.0)) refl)
@@ -109,7 +109,7 @@ first_least d [] a = All-nil (λ e. d.until ≤ e.until)
 first_least d (e ∷ ds) a = All-cons (λ x. d.until ≤ x.until) e ds (due_no_later d e a.0) (first_least d ds a.1)
 
 -- a deadline of a new owner at its place keeps the clock sound
-pub IsClock-placed : (room : ℕ) (ds : List Deadline) (d : Deadline) → IsClock (record { room = room; pairs = ds }) → IsNone (until_of d.owner ds) → length ds < room → IsClock (record { room = room; pairs = placed d ds })
+pub IsClock-placed : (room : ℕ) (ds : List Deadline) (d : Deadline) → IsClock (record { room = room; pairs = ds }) → IsNone (until_of d.owner ds) → length ds < room → IsClock (record { room = room; pairs = with_deadline d ds })
 IsClock-placed room ds d s h room_left = rw (placed-put d ds s.in_order h) (record {
   in_order = in_order-put d ds s.in_order h;
   distinct = distinct-put d ds s.distinct h;

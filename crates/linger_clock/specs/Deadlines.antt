@@ -29,8 +29,8 @@ abbrev pub without : ℕ → List Deadline → List Deadline
 without owner ds = filter (λ d. not (is_of owner d)) ds
 
 -- d at its place in the order: those before it, then d, then those after it
-abbrev pub placed : Deadline → List Deadline → List Deadline
-placed d ds = filter (λ e. is_before e d) ds ++ d ∷ filter (λ e. is_before d e) ds
+abbrev pub with_deadline : Deadline → List Deadline → List Deadline
+with_deadline d ds = filter (λ e. is_before e d) ds ++ d ∷ filter (λ e. is_before d e) ds
 
 -- each of the deadlines comes after d
 abbrev pub AllAfter : Deadline → List Deadline → Type 0

@@ -7,7 +7,7 @@
 
 ghost use Rattle.std.specs.Prelude.{◌≡◌, ◌≤◌, ◌<◌, ◌↔◌, [], Some, length, find, slice_get, All, IsNone, IsSome, IfOk, IfSome, IfNone, OnOk, OnErr};
 ghost use Rattle.std.specs.Option.{option_map};
-ghost use Rattle.linger_clock.specs.Deadlines.{is_due, until_of, without, placed, IsClock};
+ghost use Rattle.linger_clock.specs.Deadlines.{is_due, until_of, without, with_deadline, IsClock};
 
 mod spare;
 mod tree;
@@ -82,7 +82,7 @@ impl Clock {
     pub fn add(&mut self, owner: u64, until: u64) -> Result<(), ClockFault>
         ensures full { (result ≡ Err ClockFault.Full) ↔ (length self.old.pairs ≡ self.old.room) }
         ensures twice { (result ≡ Err ClockFault.Twice) ↔ ((length self.old.pairs < self.old.room) × IsSome (until_of owner self.old.pairs)) }
-        ensures added { OnOk result (self.new ≡ record self.old { pairs = placed (record { owner = owner; until = until }) self.old.pairs }) }
+        ensures added { OnOk result (self.new ≡ record self.old { pairs = with_deadline (record { owner = owner; until = until }) self.old.pairs }) }
         ensures there { OnOk result (until_of owner self.new.pairs ≡ Some until) }
         ensures others { OnOk result (without owner self.new.pairs ≡ self.old.pairs) }
         ensures refused { OnErr result (self.new ≡ self.old) }
@@ -150,7 +150,7 @@ impl Clock {
     fn put_in(&mut self, deadline: Deadline)
         requires room_left { length self.old.pairs < self.old.room }
         requires absent { IsNone (until_of deadline.owner self.old.pairs) }
-        ensures added { self.new ≡ record self.old { pairs = placed deadline self.old.pairs } }
+        ensures added { self.new ≡ record self.old { pairs = with_deadline deadline self.old.pairs } }
         ensures there { until_of deadline.owner self.new.pairs ≡ Some deadline.until }
         ensures others { without deadline.owner self.new.pairs ≡ self.old.pairs }
         ensures kept { IsClock self.new }

@@ -7,7 +7,7 @@ use Rattle.std.proofs.lemmas.Bool.{eqb-true, eqb-false, leb-true, lt-ltb}
 use Rattle.std.proofs.lemmas.List.{get_or-set_same, get_or-set_other, map-append, map-set, take-map}
 use Rattle.std.proofs.Math.Seq.{map-set_same}
 use Rattle.linger_clock.specs.declared.Deadline.{Deadline}
-use Rattle.linger_clock.specs.Deadlines.{Deadlines, IsClock, is_due, placed, until_of, without}
+use Rattle.linger_clock.specs.Deadlines.{Deadlines, IsClock, is_due, with_deadline, until_of, without}
 use Rattle.linger_clock.proofs.CallerLemmas.{length-placed, length-without, until_of-placed, until_of-without}
 use Rattle.options_machine.specs.declared.reply.Charge.{Charge}
 use Rattle.options_machine.specs.declared.rows.Lingerer.{Lingerer}
@@ -40,10 +40,10 @@ filled_waits slots ds l at q true e less h =
 filled_waits slots ds l at q false e less h = h ∙ ap until_in (sym (get_or-set_other slots at q (Some l) None (λ same. eqb-false at q e (sym same))))
 
 pub filled_tied : (slots : List (Option Lingerer)) (marks : List ℕ) (len : ℕ) (clock after : Deadlines) (at : ℕ) (l : Lingerer) (mark : ℕ) → AreTied slots marks len clock → get_or slots at None ≡ None → at < length slots → mark ≡ mark_of l.client
-    → after ≡ record clock { pairs = placed (record { owner = at; until = l.until }) clock.pairs } → IsClock after → AreTied (set slots at (Some l)) (set marks at mark) (len + 1) after
+    → after ≡ record clock { pairs = with_deadline (record { owner = at; until = l.until }) clock.pairs } → IsClock after → AreTied (set slots at (Some l)) (set marks at mark) (len + 1) after
 filled_tied slots marks len clock after at l mark k empty less m e kept =
     let d : Deadline = record { owner = at; until = l.until } in
-    let pairs : after.pairs ≡ placed d clock.pairs = ap (λ (c : Deadlines). c.pairs) e in
+    let pairs : after.pairs ≡ with_deadline d clock.pairs = ap (λ (c : Deadlines). c.pairs) e in
     let nothing : until_of at clock.pairs ≡ None = k.waits at ∙ ap until_in empty in
     let none : IsNone (until_of at clock.pairs) = subst (λ (o : Option ℕ). IsNone o) (sym nothing) refl in
     record {

@@ -9,16 +9,16 @@ use Rattle.options_machine.proofs.Counts.{and_left, and_right}
 use Rattle.script_words.specs.Firsts.{all_or_first_fault, onto}
 use Rattle.script_words.specs.declared.fault.ScriptFault.{ScriptFault}
 use Rattle.script_words.proofs.Fronts.{front_more, with_front}
-use Rattle.log_audit.specs.Log.{some_or_fault, is_fit, numbered, read_of, tells}
+use Rattle.log_audit.specs.Log.{some_or_fault, is_fit, numbered_or_fault, read_of, tells}
 use Rattle.log_audit.specs.declared.log.Numbered.{Numbered}
 
 -- the entries so far, and those of the lines that are left
 abbrev pub as_far_as : ℕ → List Numbered → List (Result Worded TextFault) → Result (List Numbered) ScriptFault
-as_far_as pools front left = with_front front (all_or_first_fault (map (numbered pools) (filter tells left)))
+as_far_as pools front left = with_front front (all_or_first_fault (map (numbered_or_fault pools) (filter tells left)))
 
 split_step : (pools : ℕ) (line : Result Worded TextFault) (lines : List (Result Worded TextFault)) (b : Bool) → tells line ≡ b
-    → all_or_first_fault (map (numbered pools) (filter tells (line ∷ lines)))
-    ≡ cond b (onto (numbered pools line) (all_or_first_fault (map (numbered pools) (filter tells lines)))) (all_or_first_fault (map (numbered pools) (filter tells lines)))
+    → all_or_first_fault (map (numbered_or_fault pools) (filter tells (line ∷ lines)))
+    ≡ cond b (onto (numbered_or_fault pools line) (all_or_first_fault (map (numbered_or_fault pools) (filter tells lines)))) (all_or_first_fault (map (numbered_or_fault pools) (filter tells lines)))
 split_step pools line lines true h = rw h refl
 split_step pools line lines false h = rw h refl
 
@@ -42,7 +42,7 @@ fault_step front fault false r others h = absurd cc
 pub one_more : (pools : ℕ) (front : List Numbered) (x : Option Numbered) (line : Result Worded TextFault) (lines all : List (Result Worded TextFault)) (whole : Result (List Numbered) ScriptFault)
     → Ok x ≡ read_of pools line → all ≡ line ∷ lines → as_far_as pools front all ≡ whole → as_far_as pools (front ++ option_to_list x) lines ≡ whole
 one_more pools front x line lines all whole is next before =
-    sym (more_step front x (tells line) (numbered pools line) (all_or_first_fault (map (numbered pools) (filter tells lines))) (sym is))
+    sym (more_step front x (tells line) (numbered_or_fault pools line) (all_or_first_fault (map (numbered_or_fault pools) (filter tells lines))) (sym is))
     ∙ (ap (with_front front) (sym (split_step pools line lines (tells line) refl))
     ∙ (ap (as_far_as pools front) (sym next) ∙ before))
 
@@ -53,7 +53,7 @@ one_fault pools front fault line lines all whole is next before =
     sym before
     ∙ (ap (as_far_as pools front) next
     ∙ (ap (with_front front) (split_step pools line lines (tells line) refl)
-    ∙ fault_step front fault (tells line) (numbered pools line) (all_or_first_fault (map (numbered pools) (filter tells lines))) (sym is)))
+    ∙ fault_step front fault (tells line) (numbered_or_fault pools line) (all_or_first_fault (map (numbered_or_fault pools) (filter tells lines))) (sym is)))
 
 -- one fit entry more
 fit_one : (pools : ℕ) (xs : List Numbered) (x : Numbered) → list_all (is_fit pools) xs ≡ true → is_fit pools x ≡ true → list_all (is_fit pools) (xs ++ x ∷ []) ≡ true

@@ -24,13 +24,13 @@ in_pools pools line (Ok x) = if nat_lt x.pool pools then Ok (record { line = lin
 in_pools pools line (Err fault) = Err fault
 
 -- the entry of a line
-abbrev pub numbered : ℕ → Result Worded TextFault → Result Numbered ScriptFault
-numbered pools (Ok line) = in_pools pools line.0 (logged_at line)
-numbered pools (Err fault) = Err (at_its_line fault)
+abbrev pub numbered_or_fault : ℕ → Result Worded TextFault → Result Numbered ScriptFault
+numbered_or_fault pools (Ok line) = in_pools pools line.0 (logged_at line)
+numbered_or_fault pools (Err fault) = Err (at_its_line fault)
 
 -- the entries of a log of so many pools, or its first line at fault
 abbrev pub log_of : ℕ → List ℕ → Result (List Numbered) ScriptFault
-log_of pools file = all_or_first_fault (map (numbered pools) (filter tells (lines_of file)))
+log_of pools file = all_or_first_fault (map (numbered_or_fault pools) (filter tells (lines_of file)))
 
 abbrev pub some_or_fault : Result Numbered ScriptFault → Result (Option Numbered) ScriptFault
 some_or_fault (Ok x) = Ok (Some x)
@@ -38,7 +38,7 @@ some_or_fault (Err fault) = Err fault
 
 -- the entry of a line, where it has one
 abbrev pub read_of : ℕ → Result Worded TextFault → Result (Option Numbered) ScriptFault
-read_of pools line = if tells line then some_or_fault (numbered pools line) else Ok None
+read_of pools line = if tells line then some_or_fault (numbered_or_fault pools line) else Ok None
 
 -- the fault of a log that a fault tells; want of memory tells none
 abbrev pub fault_told : AuditFault → Option ScriptFault

@@ -17,7 +17,7 @@ use Rattle.options_machine.specs.declared.rows.Lingerer.{Lingerer}
 use Rattle.options_machine.specs.declared.rows.Queuer.{Queuer}
 use Rattle.options_machine.specs.Rules.{Rules}
 use Rattle.options_machine.specs.State.{State, charges, in_force, opening, same_charge, set_at}
-use Rattle.options_machine.specs.Decide.{decide, reserved}
+use Rattle.options_machine.specs.Decide.{decide, reserve_line_with_room}
 use Rattle.options_machine.specs.Settle.{later_moment, serve, settle, timely, with_offer, with_seat, with_seat_again}
 use Rattle.options_machine.specs.Apply.{Fits, apply}
 use Rattle.options_machine.specs.Step.{set_of, step_of_task, task}
@@ -33,7 +33,7 @@ IsFree r s = charges s Open ≤ r.free
 
 -- a grant of Open has room
 
-one_open : (r : Rules) (s : State) (client : Client) (charge : Charge) → GrantOf (reserved r s client) (ltb (charges s Open) r.free) charge → IsFree r s → charges s Open + cond (same_charge charge Open) 1 0 ≤ r.free
+one_open : (r : Rules) (s : State) (client : Client) (charge : Charge) → GrantOf (reserve_line_with_room r s client) (ltb (charges s Open) r.free) charge → IsFree r s → charges s Open + cond (same_charge charge Open) 1 0 ≤ r.free
 one_open r s client Open e k = let room : charges s Open < r.free = ltb-true _ _ e in omega (arith, room)
 one_open r s client (Reserve line) e k = omega (arith, k)
 

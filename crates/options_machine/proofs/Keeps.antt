@@ -16,7 +16,7 @@ use Rattle.options_machine.specs.declared.rows.Lingerer.{Lingerer}
 use Rattle.options_machine.specs.declared.rows.Queuer.{Queuer}
 use Rattle.options_machine.specs.Rules.{IsSound, Rules, applies, cut_of}
 use Rattle.options_machine.specs.State.{State, charges, entries, in_use, is_holder, is_queuer, same_charge}
-use Rattle.options_machine.specs.Decide.{decide, excluded, has_room, is_left_by, not_included, number_of_limit, reached, reserved, retaken, unless}
+use Rattle.options_machine.specs.Decide.{decide, excluding_line, has_room, is_left_by, unmet_include_line, number_of_limit, reached_max_line, reserve_line_with_room, lingering_charge, unless}
 use Rattle.options_machine.specs.Settle.{in_time, later_moment, serve, settle, timely, with_offer, with_queuer, with_seat, with_seat_again, without_first}
 use Rattle.options_machine.specs.Kept.{IsKept}
 use Rattle.options_machine.proofs.Places.{length-with_holder}
@@ -106,15 +106,15 @@ grant_of None true (Reserve m) e = let no : Grant Open ≡ Grant (Reserve m) = e
 grant_of None false Open e = let no : Full ≡ Grant Open = e in cc
 grant_of None false (Reserve m) e = let no : Full ≡ Grant (Reserve m) = e in cc
 
-pub granted : (r : Rules) (s : State) (client : Client) (charge : Charge) → decide r s client ≡ Grant charge → GrantOf (reserved r s client) (ltb (charges s Open) r.free) charge
+pub granted : (r : Rules) (s : State) (client : Client) (charge : Charge) → decide r s client ≡ Grant charge → GrantOf (reserve_line_with_room r s client) (ltb (charges s Open) r.free) charge
 granted r s client charge e =
     let last : Decision = cond (ltb (charges s Open) r.free) (Grant Open) Full in
-    let third : Decision = unless (reserved r s client) (λ line. Grant (Reserve line)) last in
-    grant_of (reserved r s client) (ltb (charges s Open) r.free) charge
-    (unless_else (reached r s client) Capped third (Grant charge) (λ line f. cc)
-    (unless_else (retaken s client) Retake (unless (reached r s client) Capped third) (Grant charge) (λ c f. cc)
-    (unless_else (not_included r client) Barred (unless (retaken s client) Retake (unless (reached r s client) Capped third)) (Grant charge) (λ line f. cc)
-    (unless_else (excluded r client) Barred (unless (not_included r client) Barred (unless (retaken s client) Retake (unless (reached r s client) Capped third))) (Grant charge) (λ line f. cc) e))))
+    let third : Decision = unless (reserve_line_with_room r s client) (λ line. Grant (Reserve line)) last in
+    grant_of (reserve_line_with_room r s client) (ltb (charges s Open) r.free) charge
+    (unless_else (reached_max_line r s client) Capped third (Grant charge) (λ line f. cc)
+    (unless_else (lingering_charge s client) Retake (unless (reached_max_line r s client) Capped third) (Grant charge) (λ c f. cc)
+    (unless_else (unmet_include_line r client) Barred (unless (lingering_charge s client) Retake (unless (reached_max_line r s client) Capped third)) (Grant charge) (λ line f. cc)
+    (unless_else (excluding_line r client) Barred (unless (unmet_include_line r client) Barred (unless (lingering_charge s client) Retake (unless (reached_max_line r s client) Capped third))) (Grant charge) (λ line f. cc) e))))
 
 -- a RESERVE line with room
 
@@ -152,11 +152,11 @@ retake_of None o p b charge e = absurd (no_retake o p b charge e)
 pub retakes : (r : Rules) (s : State) (client : Client) (charge : Charge) → decide r s client ≡ Retake charge → LingersFor s client charge
 retakes r s client charge e =
     let last : Decision = cond (ltb (charges s Open) r.free) (Grant Open) Full in
-    let third : Decision = unless (reached r s client) Capped (unless (reserved r s client) (λ line. Grant (Reserve line)) last) in
+    let third : Decision = unless (reached_max_line r s client) Capped (unless (reserve_line_with_room r s client) (λ line. Grant (Reserve line)) last) in
     lingers (find (is_left_by client) s.lingering) charge
-    (retake_of (retaken s client) (reached r s client) (reserved r s client) (ltb (charges s Open) r.free) charge
-    (unless_else (not_included r client) Barred (unless (retaken s client) Retake third) (Retake charge) (λ line f. cc)
-    (unless_else (excluded r client) Barred (unless (not_included r client) Barred (unless (retaken s client) Retake third)) (Retake charge) (λ line f. cc) e)))
+    (retake_of (lingering_charge s client) (reached_max_line r s client) (reserve_line_with_room r s client) (ltb (charges s Open) r.free) charge
+    (unless_else (unmet_include_line r client) Barred (unless (lingering_charge s client) Retake third) (Retake charge) (λ line f. cc)
+    (unless_else (excluding_line r client) Barred (unless (unmet_include_line r client) Barred (unless (lingering_charge s client) Retake third)) (Retake charge) (λ line f. cc) e)))
 
 -- seats in use are charged to Open, or to RESERVE lines within their cut numbers
 
@@ -232,7 +232,7 @@ in_use_within r s h =
 
 -- a grant has room
 
-grant_fits : (r : Rules) (s : State) (client : Client) (charge : Charge) → IsSound r → ((line : ℕ) → charges s (Reserve line) ≤ cut_of line r.reserves) → GrantOf (reserved r s client) (ltb (charges s Open) r.free) charge → (in_use s < r.count) × FitsCharge r s charge
+grant_fits : (r : Rules) (s : State) (client : Client) (charge : Charge) → IsSound r → ((line : ℕ) → charges s (Reserve line) ≤ cut_of line r.reserves) → GrantOf (reserve_line_with_room r s client) (ltb (charges s Open) r.free) charge → (in_use s < r.count) × FitsCharge r s charge
 grant_fits r s client Open g h e =
     let room : charges s Open < r.free = ltb-true _ _ e in
     (omega (arith, room, in_use_within r s h, g.parted), tt)

@@ -22,7 +22,7 @@ use Rattle.options_machine.specs.declared.rows.Holder.{Holder}
 use Rattle.options_machine.specs.declared.rows.Queuer.{Queuer}
 use Rattle.options_machine.specs.Rules.{Rules}
 use Rattle.options_machine.specs.State.{State, charges, in_force, in_use, place}
-use Rattle.options_machine.specs.Decide.{decide, excluded, has_room, is_reached, not_included, number_of_limit, reached, reserved, retaken, unless}
+use Rattle.options_machine.specs.Decide.{decide, excluding_line, has_room, is_reached, unmet_include_line, number_of_limit, reached_max_line, reserve_line_with_room, lingering_charge, unless}
 use Rattle.options_machine.specs.Step.{answer_by_decision, answer_of, answer_of_return, entry_left, lingers, set_asked, set_of, standing_of, step_of_task, task, to_away, to_told, to_untold, to_waiting}
 use Rattle.options_machine.specs.Own.{is_of_holding, is_of_queueing}
 use Rattle.options_machine.specs.Replies.{IsBarredInQueue, IsDenied, IsFull, IsGranted, IsLeft, IsRetaken, IsToldLate, asks_such, state_found, gives_back, goes_at_once, is_about_own_seat, is_for_seat, is_for_standing, is_giving_back, is_of_own_seat, is_pending, is_told, is_waiting, asks_for_seat, line_of_denial, reply_to, rules_found}
@@ -250,15 +250,15 @@ open_full a b false e f = ltb-false a b e
 none_left : (r : Rules) (s : State) (client : Client) → decide r s client ≡ Full → r.free ≤ charges s Open
 none_left r s client e =
     let last : Decision = cond (ltb (charges s Open) r.free) (Grant Open) Full in
-    let fifth : Decision = unless (reserved r s client) (λ line. Grant (Reserve line)) last in
-    let fourth : Decision = unless (reached r s client) Capped fifth in
-    let third : Decision = unless (retaken s client) Retake fourth in
+    let fifth : Decision = unless (reserve_line_with_room r s client) (λ line. Grant (Reserve line)) last in
+    let fourth : Decision = unless (reached_max_line r s client) Capped fifth in
+    let third : Decision = unless (lingering_charge s client) Retake fourth in
     open_full (charges s Open) r.free (ltb (charges s Open) r.free) refl
-    (unless_else (reserved r s client) (λ line. Grant (Reserve line)) last Full (λ line f. cc)
-    (unless_else (reached r s client) Capped fifth Full (λ line f. cc)
-    (unless_else (retaken s client) Retake fourth Full (λ charge f. cc)
-    (unless_else (not_included r client) Barred third Full (λ line f. cc)
-    (unless_else (excluded r client) Barred (unless (not_included r client) Barred third) Full (λ line f. cc) e)))))
+    (unless_else (reserve_line_with_room r s client) (λ line. Grant (Reserve line)) last Full (λ line f. cc)
+    (unless_else (reached_max_line r s client) Capped fifth Full (λ line f. cc)
+    (unless_else (lingering_charge s client) Retake fourth Full (λ charge f. cc)
+    (unless_else (unmet_include_line r client) Barred third Full (λ line f. cc)
+    (unless_else (excluding_line r client) Barred (unless (unmet_include_line r client) Barred third) Full (λ line f. cc) e)))))
 
 full_of : (r : Rules) (s : State) (request : Request) (a b : ℕ) → When r s request.client (task request.kind) (place s request.party) (reply.NoSeat a b) → IsFull r s request a b
 full_of r s request a b c = record { asks = checkout_of request.kind c.0; away = c.1; none = c.2; charged = c.3; unreserved = c.4 }
@@ -320,20 +320,20 @@ none_granted : (o : Option ℕ) (others : Decision) → unless o (λ line. Grant
 none_granted None others e = refl
 none_granted (Some line) others e = absurd (cc)
 
-reached_before : (r : Rules) (s : State) (client : Client) (charge : Charge) → decide r s client ≡ Grant charge → is_some (reached r s client) ≡ false
+reached_before : (r : Rules) (s : State) (client : Client) (charge : Charge) → decide r s client ≡ Grant charge → is_some (reached_max_line r s client) ≡ false
 reached_before r s client charge e =
     let last : Decision = cond (ltb (charges s Open) r.free) (Grant Open) Full in
-    let third : Decision = unless (reserved r s client) (λ line. Grant (Reserve line)) last in
-    let fourth : Decision = unless (reached r s client) Capped third in
-    let fifth : Decision = unless (retaken s client) Retake fourth in
-    none_capped (reached r s client) third charge
-    (unless_else (retaken s client) Retake fourth (Grant charge) (λ c f. cc)
-    (unless_else (not_included r client) Barred fifth (Grant charge) (λ line f. cc)
-    (unless_else (excluded r client) Barred (unless (not_included r client) Barred fifth) (Grant charge) (λ line f. cc) e)))
+    let third : Decision = unless (reserve_line_with_room r s client) (λ line. Grant (Reserve line)) last in
+    let fourth : Decision = unless (reached_max_line r s client) Capped third in
+    let fifth : Decision = unless (lingering_charge s client) Retake fourth in
+    none_capped (reached_max_line r s client) third charge
+    (unless_else (lingering_charge s client) Retake fourth (Grant charge) (λ c f. cc)
+    (unless_else (unmet_include_line r client) Barred fifth (Grant charge) (λ line f. cc)
+    (unless_else (excluding_line r client) Barred (unless (unmet_include_line r client) Barred fifth) (Grant charge) (λ line f. cc) e)))
 
 pub max_counts : (r : Rules) (s : State) (client : Client) (charge : Charge) → list_any (is_reached r s client) r.maxes ≡ true → decide r s client ≡ Grant charge → ⊥
 max_counts r s client charge h e =
-    let some : is_some (reached r s client) ≡ true = some_found number_of_limit (is_reached r s client) r.maxes ∙ h in
+    let some : is_some (reached_max_line r s client) ≡ true = some_found number_of_limit (is_reached r s client) r.maxes ∙ h in
     let never : true ≡ false = sym some ∙ reached_before r s client charge e in
     cc
 
@@ -345,17 +345,17 @@ in_use_or : (r : Rules) (s : State) (client : Client) → (list_any (has_room r 
 in_use_or r s client (inl e) = inl e
 in_use_or r s client (inr e) = inr (ltb-false (in_use s) r.count e)
 
-reserved_before : (r : Rules) (s : State) (client : Client) → decide r s client ≡ Full → is_some (reserved r s client) ≡ false
+reserved_before : (r : Rules) (s : State) (client : Client) → decide r s client ≡ Full → is_some (reserve_line_with_room r s client) ≡ false
 reserved_before r s client e =
     let last : Decision = cond (ltb (charges s Open) r.free) (Grant Open) Full in
-    let fifth : Decision = unless (reserved r s client) (λ line. Grant (Reserve line)) last in
-    let fourth : Decision = unless (reached r s client) Capped fifth in
-    let third : Decision = unless (retaken s client) Retake fourth in
-    none_granted (reserved r s client) last
-    (unless_else (reached r s client) Capped fifth Full (λ line f. cc)
-    (unless_else (retaken s client) Retake fourth Full (λ charge f. cc)
-    (unless_else (not_included r client) Barred third Full (λ line f. cc)
-    (unless_else (excluded r client) Barred (unless (not_included r client) Barred third) Full (λ line f. cc) e))))
+    let fifth : Decision = unless (reserve_line_with_room r s client) (λ line. Grant (Reserve line)) last in
+    let fourth : Decision = unless (reached_max_line r s client) Capped fifth in
+    let third : Decision = unless (lingering_charge s client) Retake fourth in
+    none_granted (reserve_line_with_room r s client) last
+    (unless_else (reached_max_line r s client) Capped fifth Full (λ line f. cc)
+    (unless_else (lingering_charge s client) Retake fourth Full (λ charge f. cc)
+    (unless_else (unmet_include_line r client) Barred third Full (λ line f. cc)
+    (unless_else (excluding_line r client) Barred (unless (unmet_include_line r client) Barred third) Full (λ line f. cc) e))))
 
 pub reserves_used_up : (sets : List Rules) (s : State) (request : Request) (moment taken free : ℕ) → reply_to sets s request moment ≡ reply.NoSeat taken free
     → (list_any (has_room (rules_found sets s moment) (state_found sets s moment) request.client) (rules_found sets s moment).reserves ≡ false) ⊎ ((rules_found sets s moment).count ≤ in_use (state_found sets s moment))

@@ -16,7 +16,7 @@ use Rattle.options_machine.specs.declared.rows.Queuer.{Queuer}
 use Rattle.lic_types.specs.Groups.{same_name}
 use Rattle.options_machine.specs.Rules.{Rules, applies}
 use Rattle.options_machine.specs.State.{State, charges, in_use}
-use Rattle.options_machine.specs.Decide.{decide, excluded, has_room, is_left_by, is_reached, is_seat, matched, not_included, number_of_limit, reached, reserved, retaken, same_client, unless}
+use Rattle.options_machine.specs.Decide.{decide, excluding_line, has_room, is_left_by, is_reached, is_seat, match_count, unmet_include_line, number_of_limit, reached_max_line, reserve_line_with_room, lingering_charge, same_client, unless}
 use Rattle.options_machine.specs.Settle.{serve, settle, timely, with_offer, with_queuer, with_seat, with_seat_again, without_first}
 use Rattle.options_machine.specs.Law.{IsServed}
 use Rattle.options_machine.proofs.Counts.{and_left, and_right, any_weaker, count-with_holder, count-without_first, find_passes, some_found}
@@ -25,7 +25,7 @@ use Rattle.options_machine.proofs.Keeps.{LingersFor, charges-seated, charges-res
 -- a state that is at least as full: nothing lingers for a client for whom nothing did, and no count is smaller
 pub record IsFuller (r : Rules) (s new : State) : Type 0 where
   pub lingers : (c : Client) → list_any (is_left_by c) new.lingering ≡ true → list_any (is_left_by c) s.lingering ≡ true
-  pub matched : (line : RuleLine) → matched r s line ≤ matched r new line
+  pub matched : (line : RuleLine) → match_count r s line ≤ match_count r new line
   pub charges : (c : Charge) → charges s c ≤ charges new c
   pub in_use : in_use s ≤ in_use new
 
@@ -56,9 +56,9 @@ fewer true true false false false false false false g g' hd he hf hg h = hg h
 
 reached_more : (r : Rules) (s new : State) (c : Client) (m : Limit) → IsFuller r s new → is_reached r s c m ≡ true → is_reached r new c m ≡ true
 reached_more r s new c m u h =
-    let speaks : applies r.groups c m.line ≡ true = and_left (applies r.groups c m.line) (leb m.number (matched r s m.line)) h in
-    let before : m.number ≤ matched r s m.line = leb-true _ _ (and_right (applies r.groups c m.line) (leb m.number (matched r s m.line)) h) in
-    rw speaks (le-leb m.number (matched r new m.line) (omega (arith, before, u.matched m.line)))
+    let speaks : applies r.groups c m.line ≡ true = and_left (applies r.groups c m.line) (leb m.number (match_count r s m.line)) h in
+    let before : m.number ≤ match_count r s m.line = leb-true _ _ (and_right (applies r.groups c m.line) (leb m.number (match_count r s m.line)) h) in
+    rw speaks (le-leb m.number (match_count r new m.line) (omega (arith, before, u.matched m.line)))
 
 room_less : (r : Rules) (s new : State) (c : Client) (m : Limit) → IsFuller r s new → has_room r new c m ≡ true → has_room r s c m ≡ true
 room_less r s new c m u h =
@@ -67,11 +67,11 @@ room_less r s new c m u h =
     rw speaks (lt-ltb (charges s (Reserve m.line.line)) m.number (omega (arith, after, u.charges (Reserve m.line.line))))
 
 -- whether a RESERVE line with room is found
-pub reserved_some : (r : Rules) (s : State) (c : Client) (b : Bool) → ltb (in_use s) r.count ≡ b → is_some (reserved r s c) ≡ (ltb (in_use s) r.count && list_any (has_room r s c) r.reserves)
+pub reserved_some : (r : Rules) (s : State) (c : Client) (b : Bool) → ltb (in_use s) r.count ≡ b → is_some (reserve_line_with_room r s c) ≡ (ltb (in_use s) r.count && list_any (has_room r s c) r.reserves)
 reserved_some r s c true e = rw e (some_found number_of_limit (has_room r s c) r.reserves)
 reserved_some r s c false e = rw e refl
 
-reserved_less : (r : Rules) (s new : State) (c : Client) → IsFuller r s new → is_some (reserved r new c) ≡ true → is_some (reserved r s c) ≡ true
+reserved_less : (r : Rules) (s new : State) (c : Client) → IsFuller r s new → is_some (reserve_line_with_room r new c) ≡ true → is_some (reserve_line_with_room r s c) ≡ true
 reserved_less r s new c u h =
     let both : (ltb (in_use new) r.count && list_any (has_room r new c) r.reserves) ≡ true = sym (reserved_some r new c (ltb (in_use new) r.count) refl) ∙ h in
     let free : in_use new < r.count = ltb-true _ _ (and_left (ltb (in_use new) r.count) (list_any (has_room r new c) r.reserves) both) in
@@ -85,17 +85,17 @@ open_before r s new u e = let less : charges new Open < r.free = ltb-true _ _ e 
 -- in a fuller state there is a seat only where there was one
 pub seat_before : (r : Rules) (s new : State) (c : Client) → IsFuller r s new → is_seat (decide r new c) ≡ true → is_seat (decide r s c) ≡ true
 seat_before r s new c u h =
-    let after : (not (is_some (excluded r c)) && (not (is_some (not_included r c)) && (is_some (retaken new c) || (not (is_some (reached r new c)) && (is_some (reserved r new c) || ltb (charges new Open) r.free))))) ≡ true
-    = sym (seat_of (excluded r c) (not_included r c) (retaken new c) (reached r new c) (reserved r new c) (ltb (charges new Open) r.free)) ∙ h in
-    let before : (not (is_some (excluded r c)) && (not (is_some (not_included r c)) && (is_some (retaken s c) || (not (is_some (reached r s c)) && (is_some (reserved r s c) || ltb (charges s Open) r.free))))) ≡ true
-    = fewer (not (is_some (excluded r c))) (not (is_some (not_included r c))) (is_some (retaken s c)) (is_some (retaken new c)) (is_some (reached r s c)) (is_some (reached r new c))
-    (is_some (reserved r s c)) (is_some (reserved r new c)) (ltb (charges s Open) r.free) (ltb (charges new Open) r.free)
+    let after : (not (is_some (excluding_line r c)) && (not (is_some (unmet_include_line r c)) && (is_some (lingering_charge new c) || (not (is_some (reached_max_line r new c)) && (is_some (reserve_line_with_room r new c) || ltb (charges new Open) r.free))))) ≡ true
+    = sym (seat_of (excluding_line r c) (unmet_include_line r c) (lingering_charge new c) (reached_max_line r new c) (reserve_line_with_room r new c) (ltb (charges new Open) r.free)) ∙ h in
+    let before : (not (is_some (excluding_line r c)) && (not (is_some (unmet_include_line r c)) && (is_some (lingering_charge s c) || (not (is_some (reached_max_line r s c)) && (is_some (reserve_line_with_room r s c) || ltb (charges s Open) r.free))))) ≡ true
+    = fewer (not (is_some (excluding_line r c))) (not (is_some (unmet_include_line r c))) (is_some (lingering_charge s c)) (is_some (lingering_charge new c)) (is_some (reached_max_line r s c)) (is_some (reached_max_line r new c))
+    (is_some (reserve_line_with_room r s c)) (is_some (reserve_line_with_room r new c)) (ltb (charges s Open) r.free) (ltb (charges new Open) r.free)
     (λ e. some_found (λ (l : Lingerer). l.charge) (is_left_by c) s.lingering ∙ u.lingers c (sym (some_found (λ (l : Lingerer). l.charge) (is_left_by c) new.lingering) ∙ e))
     (λ e. some_found number_of_limit (is_reached r new c) r.maxes ∙ any_weaker (is_reached r s c) (is_reached r new c) (λ m. reached_more r s new c m u) r.maxes (sym (some_found number_of_limit (is_reached r s c) r.maxes) ∙ e))
     (λ e. reserved_less r s new c u e)
     (λ e. open_before r s new u e)
     after in
-    seat_of (excluded r c) (not_included r c) (retaken s c) (reached r s c) (reserved r s c) (ltb (charges s Open) r.free) ∙ before
+    seat_of (excluding_line r c) (unmet_include_line r c) (lingering_charge s c) (reached_max_line r s c) (reserve_line_with_room r s c) (ltb (charges s Open) r.free) ∙ before
 
 -- equal clients
 

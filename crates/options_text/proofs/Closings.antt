@@ -3,7 +3,7 @@ use Rattle.std.proofs.lemmas.Bool.{and_parts, leb-true, lt-ltb, ne_eqb}
 use Rattle.std.proofs.lemmas.List.{append-nil, length-append}
 use Rattle.std.specs.List.{list_all}
 use Rattle.lic_text.specs.Physical.{ends_in, is_continued}
-use Rattle.options_text.specs.Texts.{closed_text, spaced}
+use Rattle.options_text.specs.Texts.{closed_text, spaced_text}
 
 ends_at : (b : ℕ) (text : List ℕ) (i : ℕ) → 0 < length text → length text - 1 ≡ i → ends_in b text ≡ (get_or text i 0 == b)
 ends_at b text i h e = rw (lt-ltb 0 (length text) h, e) refl
@@ -56,10 +56,10 @@ room (word ∷ []) = length word + more_if (is_continued word)
 room (word ∷ next ∷ words) = length word + 1 + room (next ∷ words)
 
 -- a line's text is as long as that
-pub length_text : (word : List ℕ) (words : List (List ℕ)) → length (closed_text (spaced word words)) ≡ room (word ∷ words)
+pub length_text : (word : List ℕ) (words : List (List ℕ)) → length (closed_text (spaced_text word words)) ≡ room (word ∷ words)
 length_text word [] = ap (λ (text : List ℕ). length (closed_text text)) (append-nil word) ∙ length_closed word
 length_text word (w ∷ ws) =
-    let ends : more_if (is_continued (word ++ 32 ∷ spaced w ws)) ≡ more_if (is_continued (spaced w ws)) = ap more_if (continued_behind word (spaced w ws)) in
-    let long : length (word ++ 32 ∷ spaced w ws) ≡ length word + length (32 ∷ spaced w ws) = length-append word (32 ∷ spaced w ws) in
-    let rest : length (closed_text (spaced w ws)) ≡ room (w ∷ ws) = length_text w ws in
-    omega (arith, length_closed (word ++ 32 ∷ spaced w ws), ends, long, rest, length_closed (spaced w ws))
+    let ends : more_if (is_continued (word ++ 32 ∷ spaced_text w ws)) ≡ more_if (is_continued (spaced_text w ws)) = ap more_if (continued_behind word (spaced_text w ws)) in
+    let long : length (word ++ 32 ∷ spaced_text w ws) ≡ length word + length (32 ∷ spaced_text w ws) = length-append word (32 ∷ spaced_text w ws) in
+    let rest : length (closed_text (spaced_text w ws)) ≡ room (w ∷ ws) = length_text w ws in
+    omega (arith, length_closed (word ++ 32 ∷ spaced_text w ws), ends, long, rest, length_closed (spaced_text w ws))

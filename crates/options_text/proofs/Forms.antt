@@ -9,7 +9,7 @@ use Rattle.options_text.specs.Answers.{◌>>=◌}
 use Rattle.options_text.specs.Canonical.{entry_text}
 use Rattle.options_text.specs.Forms.{access_rule, admits_all_of, admits_of, entry_of, feature_of, form_of, group_of, name_at, names_of, number_below, share_rule, shares_of, span_rule, times_all_of, times_of, unless_none, who_of}
 use Rattle.options_text.specs.Keywords.{keyword_of}
-use Rattle.options_text.specs.Texts.{all_name, closed_text, group_text, kind_name, list_name, log_name, rule_name, rule_text, rule_words, spaced}
+use Rattle.options_text.specs.Texts.{all_name, closed_text, group_text, kind_name, list_name, log_name, rule_name, rule_text, rule_words, spaced_text}
 use Rattle.options_text.specs.declared.entry.Entry.{Entry}
 use Rattle.options_text.specs.declared.entry.Entry.TheVariants.{Lists as a_list, Rules, Passes}
 use Rattle.options_text.specs.declared.fault.OptionsFault.TheVariants.{UnknownKeyword}
@@ -42,7 +42,7 @@ words_in (Rules rule) = rule_words rule
 words_in (Passes note log) = []
 
 -- the text of an entry's line is of these words
-pub text_is : (entry : Entry) → entry_text entry ≡ closed_text (spaced (name_in entry) (words_in entry))
+pub text_is : (entry : Entry) → entry_text entry ≡ closed_text (spaced_text (name_in entry) (words_in entry))
 unfolding group_text rule_text
 text_is (a_list group) = refl
 text_is (Rules rule) = refl

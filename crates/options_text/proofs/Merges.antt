@@ -5,7 +5,7 @@ use Rattle.lic_types.specs.declared.client.RuleLine.{RuleLine}
 use Rattle.lic_types.specs.declared.note.Note.{Note}
 use Rattle.options_text.specs.Canonical.{entry_text, in_line_order, insert_entry, line_text, passes, text_from}
 use Rattle.options_text.specs.Entries.{line_of}
-use Rattle.options_text.specs.Merging.{IsRising, Writes, comes_before, first_line, next_in, ordered}
+use Rattle.options_text.specs.Merging.{IsRising, Writes, comes_before, first_line, next_in, entries_in_order}
 use Rattle.options_text.specs.Options.{OptionsFile}
 use Rattle.options_text.specs.Rises.{AreRising, Rises}
 use Rattle.options_text.specs.Texts.{group_text, log_name, rule_text}
@@ -135,7 +135,7 @@ the gs rs ns logs = record { groups = gs; lines = rs; notes = ns; logs = logs }
 
 -- where a group is the next, it is the first in line order
 pub group_first : (g : GroupLine) (gs : List GroupLine) (rs : List RuleLine) (ns : List Note) (logs : List LogKeyword)
-    → IsRising (the (g ∷ gs) rs ns logs) → next_in (the (g ∷ gs) rs ns logs) ≡ OfGroup → ordered (the (g ∷ gs) rs ns logs) ≡ Lists g ∷ ordered (the gs rs ns logs)
+    → IsRising (the (g ∷ gs) rs ns logs) → next_in (the (g ∷ gs) rs ns logs) ≡ OfGroup → entries_in_order (the (g ∷ gs) rs ns logs) ≡ Lists g ∷ entries_in_order (the gs rs ns logs)
 group_first g gs rs ns logs rising next =
     let tests : (comes_before (Some g.line) (of_rules rs) ≡ true) × (comes_before (Some g.line) (of_notes ns) ≡ true) = both_true _ _ (picked_group _ _ _ next) in
     first_of [] (Lists g) (map Lists gs ++ (map Rules rs ++ passes ns logs)) tt
@@ -161,7 +161,7 @@ later_groups (g ∷ gs) n other c b r =
 
 -- where a rule is the next, it is the first in line order
 pub rule_first : (gs : List GroupLine) (l : RuleLine) (rs : List RuleLine) (ns : List Note) (logs : List LogKeyword)
-    → IsRising (the gs (l ∷ rs) ns logs) → next_in (the gs (l ∷ rs) ns logs) ≡ OfRule → ordered (the gs (l ∷ rs) ns logs) ≡ Rules l ∷ ordered (the gs rs ns logs)
+    → IsRising (the gs (l ∷ rs) ns logs) → next_in (the gs (l ∷ rs) ns logs) ≡ OfRule → entries_in_order (the gs (l ∷ rs) ns logs) ≡ Rules l ∷ entries_in_order (the gs rs ns logs)
 rule_first gs l rs ns logs rising next =
     let tests : ((comes_before (of_groups gs) (Some l.line) && comes_before (of_groups gs) (of_notes ns)) ≡ false) × (comes_before (Some l.line) (of_notes ns) ≡ true) = picked_rule _ _ _ next in
     first_of (map Lists gs) (Rules l) (map Rules rs ++ passes ns logs)
@@ -193,7 +193,7 @@ later_groups_still (g ∷ gs) n rs c b r =
 
 -- where a note is the next, it is the first in line order
 pub note_first : (gs : List GroupLine) (rs : List RuleLine) (x : Note) (ns : List Note) (log : LogKeyword) (logs : List LogKeyword)
-    → IsRising (the gs rs (x ∷ ns) (log ∷ logs)) → next_in (the gs rs (x ∷ ns) (log ∷ logs)) ≡ OfNote → ordered (the gs rs (x ∷ ns) (log ∷ logs)) ≡ Passes x log ∷ ordered (the gs rs ns logs)
+    → IsRising (the gs rs (x ∷ ns) (log ∷ logs)) → next_in (the gs rs (x ∷ ns) (log ∷ logs)) ≡ OfNote → entries_in_order (the gs rs (x ∷ ns) (log ∷ logs)) ≡ Passes x log ∷ entries_in_order (the gs rs ns logs)
 note_first gs rs x ns log logs rising next =
     let tests : ((comes_before (of_groups gs) (of_rules rs) && comes_before (of_groups gs) (Some x.line)) ≡ false) × ((comes_before (of_rules rs) (Some x.line) ≡ false) × (true ≡ true)) = picked_note _ _ _ next in
     let first : in_line_order ((map Lists gs ++ map Rules rs) ++ Passes x log ∷ passes ns logs) ≡ Passes x log ∷ in_line_order ((map Lists gs ++ map Rules rs) ++ passes ns logs) =
@@ -204,7 +204,7 @@ note_first gs rs x ns log logs rising next =
     ∙ (first ∙ ap (λ es. Passes x log ∷ in_line_order es) (append_assoc (map Lists gs) (map Rules rs) (passes ns logs)))
 
 -- where nothing is the next, nothing is left
-pub none_left : (gs : List GroupLine) (rs : List RuleLine) (ns : List Note) (logs : List LogKeyword) → next_in (the gs rs ns logs) ≡ OfNone → ordered (the gs rs ns logs) ≡ []
+pub none_left : (gs : List GroupLine) (rs : List RuleLine) (ns : List Note) (logs : List LogKeyword) → next_in (the gs rs ns logs) ≡ OfNone → entries_in_order (the gs rs ns logs) ≡ []
 none_left gs rs (x ∷ ns) logs next =
     absurd (false≢true (sym (picked_none (comes_before (of_groups gs) (of_rules rs) && comes_before (of_groups gs) (Some x.line)) (comes_before (of_rules rs) (Some x.line)) true next).1.1))
 none_left gs (l ∷ rs) [] logs next =
@@ -222,7 +222,7 @@ pub group_writes : (g : GroupLine) (gs : List GroupLine) (rs : List RuleLine) (n
     → IsRising (the (g ∷ gs) rs ns logs) → next_in (the (g ∷ gs) rs ns logs) ≡ OfGroup → new ≡ text ++ line_text at g.line (group_text g)
     → Writes text new at (g.line + 1) (the (g ∷ gs) rs ns logs) (the gs rs ns logs)
 group_writes g gs rs ns logs at text new rising next is = record {
-  whole = ap (λ t. t ++ text_from (g.line + 1) (ordered (the gs rs ns logs))) is ∙ text_more text at (Lists g) (ordered (the gs rs ns logs)) _ (group_first g gs rs ns logs rising next);
+  whole = ap (λ t. t ++ text_from (g.line + 1) (entries_in_order (the gs rs ns logs))) is ∙ text_more text at (Lists g) (entries_in_order (the gs rs ns logs)) _ (group_first g gs rs ns logs rising next);
   rising = record { groups = rising_rest g.line (map (λ (x : GroupLine). x.line) gs) rising.groups; lines = rising.lines; notes = rising.notes; paired = rising.paired };
   fewer = omega arith;
 }
@@ -232,7 +232,7 @@ pub rule_writes : (gs : List GroupLine) (l : RuleLine) (rs : List RuleLine) (ns 
     → IsRising (the gs (l ∷ rs) ns logs) → next_in (the gs (l ∷ rs) ns logs) ≡ OfRule → new ≡ text ++ line_text at l.line (rule_text l)
     → Writes text new at (l.line + 1) (the gs (l ∷ rs) ns logs) (the gs rs ns logs)
 rule_writes gs l rs ns logs at text new rising next is = record {
-  whole = ap (λ t. t ++ text_from (l.line + 1) (ordered (the gs rs ns logs))) is ∙ text_more text at (Rules l) (ordered (the gs rs ns logs)) _ (rule_first gs l rs ns logs rising next);
+  whole = ap (λ t. t ++ text_from (l.line + 1) (entries_in_order (the gs rs ns logs))) is ∙ text_more text at (Rules l) (entries_in_order (the gs rs ns logs)) _ (rule_first gs l rs ns logs rising next);
   rising = record { groups = rising.groups; lines = rising_rest l.line (map (λ (x : RuleLine). x.line) rs) rising.lines; notes = rising.notes; paired = rising.paired };
   fewer = omega arith;
 }
@@ -242,7 +242,7 @@ pub note_writes : (gs : List GroupLine) (rs : List RuleLine) (x : Note) (ns : Li
     → IsRising (the gs rs (x ∷ ns) (log ∷ logs)) → next_in (the gs rs (x ∷ ns) (log ∷ logs)) ≡ OfNote → new ≡ text ++ line_text at x.line (log_name log)
     → Writes text new at (x.line + 1) (the gs rs (x ∷ ns) (log ∷ logs)) (the gs rs ns logs)
 note_writes gs rs x ns log logs at text new rising next is = record {
-  whole = ap (λ t. t ++ text_from (x.line + 1) (ordered (the gs rs ns logs))) is ∙ text_more text at (Passes x log) (ordered (the gs rs ns logs)) _ (note_first gs rs x ns log logs rising next);
+  whole = ap (λ t. t ++ text_from (x.line + 1) (entries_in_order (the gs rs ns logs))) is ∙ text_more text at (Passes x log) (entries_in_order (the gs rs ns logs)) _ (note_first gs rs x ns log logs rising next);
   rising = record { groups = rising.groups; lines = rising.lines; notes = rising_rest x.line (map (λ (y : Note). y.line) ns) rising.notes; paired = omega (arith, rising.paired) };
   fewer = omega arith;
 }

@@ -7,7 +7,7 @@ use Rattle.lic_types.specs.declared.client.RuleLine.{RuleLine}
 use Rattle.lic_types.specs.declared.note.Note.{Note}
 use Rattle.options_text.specs.Answers.{◌>>=◌}
 use Rattle.options_text.specs.Entries.{entries_after, is_fit, is_within_limits, line_of}
-use Rattle.options_text.specs.Options.{IsOrderly, OptionsFile, first_undefined, group_in, log_in, note_in, options_of, rule_in, sorted, unless_undefined, with_groups_defined}
+use Rattle.options_text.specs.Options.{IsOrderly, OptionsFile, first_undefined, group_in, log_in, note_in, options_of, rule_in, options_among, unless_undefined, with_groups_defined}
 use Rattle.options_text.specs.declared.entry.Entry.{Entry}
 use Rattle.options_text.specs.declared.entry.Entry.TheVariants.{Lists, Rules, Passes}
 use Rattle.options_text.specs.Names.{line_undefined}
@@ -53,7 +53,7 @@ logs_paired (Lists group ∷ entries) = logs_paired entries
 logs_paired (Rules rule ∷ entries) = logs_paired entries
 logs_paired (Passes note log ∷ entries) = ap (λ n. Rattle.std.proofs.Common.suc n) (logs_paired entries)
 
-orderly_if : (entries : List Entry) → Rises 0 (map line_of entries) → list_all is_fit entries ≡ true → IsOrderly (sorted entries)
+orderly_if : (entries : List Entry) → Rises 0 (map line_of entries) → list_all is_fit entries ≡ true → IsOrderly (options_among entries)
 orderly_if entries r fit = record {
   groups_rise = increasing 0 _ (groups_rise 0 entries r);
   lines_rise = increasing 0 _ (rules_rise 0 entries r);
@@ -63,7 +63,7 @@ orderly_if entries r fit = record {
 }
 
 -- the options of a file are orderly
-pub orderly : (file : List ℕ) (entries : List Entry) (options : OptionsFile) → NumbersRise → entries_after [] (lines_of file) ≡ Ok entries → list_all is_fit entries ≡ true → options ≡ sorted entries → IsOrderly options
+pub orderly : (file : List ℕ) (entries : List Entry) (options : OptionsFile) → NumbersRise → entries_after [] (lines_of file) ≡ Ok entries → list_all is_fit entries ≡ true → options ≡ options_among entries → IsOrderly options
 orderly file entries options rise is fit same =
     let rises : Rises 0 (map line_of entries) =
     (let P : Result (List Entry) OptionsFault → Type 0 = λ r. IfOk r (λ (es : List Entry). Rises 0 (map line_of es)) in
@@ -81,8 +81,8 @@ line_or_rule options (Some rule) = refl
 
 -- the answer of a file whose entries are these, where this is the line of the first rule whose group is undefined
 pub whole : (file : List ℕ) (entries : List Entry) (options : OptionsFile) (line : Option ℕ)
-    → entries_after [] (lines_of file) ≡ Ok entries → options ≡ sorted entries → line ≡ line_undefined options → unless_line options line ≡ options_of file
+    → entries_after [] (lines_of file) ≡ Ok entries → options ≡ options_among entries → line ≡ line_undefined options → unless_line options line ≡ options_of file
 whole file entries options line is same finds =
     ap (unless_line options) finds
     ∙ (line_or_rule options (first_undefined options)
-    ∙ (ap with_groups_defined same ∙ ap (λ (r : Result (List Entry) OptionsFault). r >>= (λ es. with_groups_defined (sorted es))) (sym is)))
+    ∙ (ap with_groups_defined same ∙ ap (λ (r : Result (List Entry) OptionsFault). r >>= (λ es. with_groups_defined (options_among es))) (sym is)))

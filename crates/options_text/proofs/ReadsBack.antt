@@ -12,9 +12,9 @@ use Rattle.options_text.specs.Canonical.{canonical, entries_of, entry_text, in_l
 use Rattle.options_text.specs.Entries.{entries_after, entry_after, entry_behind, line_of, members_in, unless_crowded}
 use Rattle.options_text.specs.Forms.{entry_of}
 use Rattle.options_text.specs.Laws.{CanonicalReadsBack, CanonicalStays}
-use Rattle.options_text.specs.Options.{IsSaid, OptionsFile, first_undefined, group_in, log_in, note_in, options_of, rule_in, sorted, unless_undefined, with_groups_defined}
+use Rattle.options_text.specs.Options.{IsSaid, OptionsFile, first_undefined, group_in, log_in, note_in, options_of, rule_in, options_among, unless_undefined, with_groups_defined}
 use Rattle.options_text.specs.Rises.{Rises}
-use Rattle.options_text.specs.Texts.{further, spaced}
+use Rattle.options_text.specs.Texts.{further, spaced_text}
 use Rattle.options_text.specs.declared.entry.Entry.{Entry}
 use Rattle.options_text.specs.declared.entry.Entry.TheVariants.{Lists, Rules, Passes}
 use Rattle.options_text.specs.declared.fault.OptionsFault.{OptionsFault}
@@ -52,7 +52,7 @@ least_entries n entries r =
     (least_notes n n (notes_in entries) (logs_in entries) (omega arith) (notes_rise n entries r)))
 
 rule_first : (l : RuleLine) (entries : List Entry) → Rises l.line (map line_of entries)
-    → in_line_order (map Lists (groups_in entries) ++ Rules l ∷ (map Rules (rules_in entries) ++ passes (notes_in entries) (logs_in entries))) ≡ Rules l ∷ in_line_order (entries_of (sorted entries))
+    → in_line_order (map Lists (groups_in entries) ++ Rules l ∷ (map Rules (rules_in entries) ++ passes (notes_in entries) (logs_in entries))) ≡ Rules l ∷ in_line_order (entries_of (options_among entries))
 rule_first l entries r =
     first_of (map Lists (groups_in entries)) (Rules l) (map Rules (rules_in entries) ++ passes (notes_in entries) (logs_in entries))
     (beyond_groups l.line l.line (groups_in entries) (omega arith) (groups_rise l.line entries r))
@@ -60,7 +60,7 @@ rule_first l entries r =
     (least_notes l.line l.line (notes_in entries) (logs_in entries) (omega arith) (notes_rise l.line entries r)))
 
 note_first : (x : Note) (log : LogKeyword) (entries : List Entry) → Rises x.line (map line_of entries)
-    → in_line_order (map Lists (groups_in entries) ++ (map Rules (rules_in entries) ++ Passes x log ∷ passes (notes_in entries) (logs_in entries))) ≡ Passes x log ∷ in_line_order (entries_of (sorted entries))
+    → in_line_order (map Lists (groups_in entries) ++ (map Rules (rules_in entries) ++ Passes x log ∷ passes (notes_in entries) (logs_in entries))) ≡ Passes x log ∷ in_line_order (entries_of (options_among entries))
 note_first x log entries r =
     let front : List Entry = map Lists (groups_in entries) in
     let middle : List Entry = map Rules (rules_in entries) in
@@ -71,7 +71,7 @@ note_first x log entries r =
     (least_notes x.line x.line (notes_in entries) (logs_in entries) (omega arith) (notes_rise x.line entries r))
     ∙ ap (λ (all : List Entry). Passes x log ∷ in_line_order all) (append_assoc front middle end))
 
-in_order : (n : ℕ) (entries : List Entry) → Rises n (map line_of entries) → in_line_order (entries_of (sorted entries)) ≡ entries
+in_order : (n : ℕ) (entries : List Entry) → Rises n (map line_of entries) → in_line_order (entries_of (options_among entries)) ≡ entries
 in_order n [] r = refl
 in_order n (Lists g ∷ entries) r =
     first_of [] (Lists g) (map Lists (groups_in entries) ++ (map Rules (rules_in entries) ++ passes (notes_in entries) (logs_in entries))) tt (least_entries g.line entries r.1)
@@ -98,8 +98,8 @@ line_text_of line entry read s =
     let P : List ℕ → Type 0 = λ text. IsLineText text (written entry) in
     subst P (sym (text_is entry)) (record {
       free = closed_free (name_in entry) (words_in entry) s.opens.token s.tokens;
-      silent = silent_if (name_in entry) (further (words_in entry)) (is_continued (spaced (name_in entry) (words_in entry))) s.opens;
-      ends = closed_ends (spaced (name_in entry) (words_in entry));
+      silent = silent_if (name_in entry) (further (words_in entry)) (is_continued (spaced_text (name_in entry) (words_in entry))) s.opens;
+      ends = closed_ends (spaced_text (name_in entry) (words_in entry));
       short = short line (name_in entry) (words_in entry) read s.within;
       says = words_closed (name_in entry) (words_in entry) s.opens.token s.tokens;
       some = refl;
@@ -174,11 +174,11 @@ rises_of file entries is =
     let P : Result (List Entry) OptionsFault → Type 0 = λ r. IfOk r (λ (es : List Entry). Rises 0 (map line_of es)) in
     subst P is (entries_rise 0 [] (lines_of file) (numbers_rise file))
 
-canonical_is : (entries : List Entry) → Rises 0 (map line_of entries) → canonical (sorted entries) ≡ text_from 1 entries
+canonical_is : (entries : List Entry) → Rises 0 (map line_of entries) → canonical (options_among entries) ≡ text_from 1 entries
 unfolding canonical
 canonical_is entries r = ap (text_from 1) (in_order 0 entries r)
 
-entries_back : (file : List ℕ) (entries : List Entry) → entries_after [] (lines_of file) ≡ Ok entries → entries_after [] (lines_of (canonical (sorted entries))) ≡ Ok entries
+entries_back : (file : List ℕ) (entries : List Entry) → entries_after [] (lines_of file) ≡ Ok entries → entries_after [] (lines_of (canonical (options_among entries))) ≡ Ok entries
 entries_back file entries is =
     let rises : Rises 0 (map line_of entries) = rises_of file entries is in
     let all : AreToldAgain [] entries = lines_again [] (lines_of file) entries (lines_read file) is in
@@ -189,9 +189,9 @@ entries_back file entries is =
 pub reads_back : CanonicalReadsBack
 reads_back file options h =
     bind_ok (entries_after [] (lines_of file)) _ options h (λ entries first rest.
-    let same : sorted entries ≡ options = sorted_by (sorted entries) (first_undefined (sorted entries)) options rest in
+    let same : options_among entries ≡ options = sorted_by (options_among entries) (first_undefined (options_among entries)) options rest in
     ap (λ (said : OptionsFile). options_of (canonical said)) (sym same)
-    ∙ (ap (λ r. r >>= λ es. with_groups_defined (sorted es)) (entries_back file entries first) ∙ rest))
+    ∙ (ap (λ r. r >>= λ es. with_groups_defined (options_among es)) (entries_back file entries first) ∙ rest))
 
 -- the canonical text of what a canonical text says is that text
 pub stays : CanonicalStays

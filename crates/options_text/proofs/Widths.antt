@@ -6,7 +6,7 @@ use Rattle.lic_text.specs.Lines.{Logical, Worded, ended_lines, line_or_fault, wi
 use Rattle.lic_text.specs.declared.fault.TextFault.{TextFault}
 use Rattle.lic_text.specs.declared.fault.TextFault.TheVariants.{LineTooLong, OpenContinuation}
 use Rattle.lic_text.proofs.Cuts.{cut}
-use Rattle.options_text.specs.Texts.{closed_text, spaced}
+use Rattle.options_text.specs.Texts.{closed_text, spaced_text}
 use Rattle.options_text.proofs.Closings.{continued_behind, ends_step, length_text, more_if, room}
 
 -- the text of a line that was read: it has the line's words and at most 8,192 bytes, and doesn't end in a backslash
@@ -188,6 +188,6 @@ room_within (word ∷ next ∷ others) (w ∷ []) h = absurd h.1.1
 room_within (word ∷ next ∷ others) (w ∷ v ∷ vs) h = omega (arith, h.0, room_within (next ∷ others) (v ∷ vs) h.1.1)
 
 -- a line's text of such words is no longer than 8,192 bytes
-pub short : (line : Worded) (word : List ℕ) (words : List (List ℕ)) → IsRead line → IsWithin (word ∷ words) line.1 → length (closed_text (spaced word words)) ≤ 8192
+pub short : (line : Worded) (word : List ℕ) (words : List (List ℕ)) → IsRead line → IsWithin (word ∷ words) line.1 → length (closed_text (spaced_text word words)) ≤ 8192
 short line word words read within =
     omega (arith, length_text word words, room_within (word ∷ words) line.1 within, ap room read.says, room_words read.text read.ends, read.short)

@@ -41,8 +41,8 @@ pub record IsRising (file : OptionsFile) : Type 0 where
   pub notes : AreRising (map (λ (n : Note). n.line) file.notes)
   pub paired : length file.logs ≡ length file.notes
 
-abbrev pub ordered : OptionsFile → List Entry
-ordered file = in_line_order (entries_of file)
+abbrev pub entries_in_order : OptionsFile → List Entry
+entries_in_order file = in_line_order (entries_of file)
 
 -- how many entries options have
 abbrev pub count : OptionsFile → ℕ
@@ -50,6 +50,6 @@ count file = length file.groups + (length file.lines + length file.notes)
 
 -- one entry was written: the texts so far and what is left to write are the same together, and less is left
 pub record Writes (text_old text_new : List ℕ) (at_old at_new : ℕ) (old new : OptionsFile) : Type 0 where
-  pub whole : text_new ++ text_from at_new (ordered new) ≡ text_old ++ text_from at_old (ordered old)
+  pub whole : text_new ++ text_from at_new (entries_in_order new) ≡ text_old ++ text_from at_old (entries_in_order old)
   pub rising : IsRising new
   pub fewer : count new < count old

@@ -45,8 +45,8 @@ log_in (Rules rule) = None
 log_in (Passes note log) = Some log
 
 -- the groups, rules and notes among entries
-abbrev pub sorted : List Entry → OptionsFile
-sorted entries = record {
+abbrev pub options_among : List Entry → OptionsFile
+options_among entries = record {
   groups = filter_map group_in entries;
   lines = filter_map rule_in entries;
   notes = filter_map note_in entries;
@@ -102,7 +102,7 @@ with_groups_defined options = unless_undefined options (first_undefined options)
 
 -- the options of a file
 abbrev pub options_of : List ℕ → Result OptionsFile OptionsFault
-options_of file = entries_after [] (lines_of file) >>= λ entries. with_groups_defined (sorted entries)
+options_of file = entries_after [] (lines_of file) >>= λ entries. with_groups_defined (options_among entries)
 
 -- what holds of the options of every file
 pub record IsOrderly (options : OptionsFile) : Type 0 where

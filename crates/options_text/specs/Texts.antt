@@ -16,8 +16,8 @@ abbrev pub further : List (List ℕ) → List ℕ
 further words = flat_map (λ word. 32 ∷ word) words
 
 -- a keyword and words, with one space between
-abbrev pub spaced : List ℕ → List (List ℕ) → List ℕ
-spaced keyword words = keyword ++ further words
+abbrev pub spaced_text : List ℕ → List (List ℕ) → List ℕ
+spaced_text keyword words = keyword ++ further words
 
 -- a text that isn't read as continued: one that ends in a backslash has a space more
 abbrev pub closed_text : List ℕ → List ℕ
@@ -84,8 +84,8 @@ rule_words rule = share_words rule.rule ++ feature_words rule.feature ++ who_wor
 
 -- the text of a rule's line
 unfoldable pub rule_text : RuleLine → List ℕ
-rule_text rule = closed_text (spaced (rule_name rule.rule ++ all_name rule.feature) (rule_words rule))
+rule_text rule = closed_text (spaced_text (rule_name rule.rule ++ all_name rule.feature) (rule_words rule))
 
 -- the text of a group's line
 unfoldable pub group_text : GroupLine → List ℕ
-group_text group = closed_text (spaced (list_name group.of_hosts) (group.name ∷ group.members))
+group_text group = closed_text (spaced_text (list_name group.of_hosts) (group.name ∷ group.members))

@@ -1,5 +1,5 @@
 ghost use Rattle.std.specs.Prelude.{◌≡◌, IfOk, OnOk};
-ghost use Rattle.options_text.specs.Options.{sorted, with_entry};
+ghost use Rattle.options_text.specs.Options.{options_among, with_entry};
 ghost use Rattle.options_text.specs.Parts.{file_of};
 
 use crate::entry::Entry;
@@ -34,7 +34,7 @@ fn add(parts: &mut Parts, entry: Entry) -> Result<(), NoMemory>
 /// Sorts entries into groups, rules and notes.
 #[tactic(auto, using(crate::proofs::Sorts::sorted_more))]
 pub fn sort(alloc: Global, entries: Vec<Entry>) -> Result<Parts, NoMemory>
-    ensures { IfOk result (λ parts. file_of parts ≡ sorted entries.items) }
+    ensures { IfOk result (λ parts. file_of parts ≡ options_among entries.items) }
 {
     let mut parts = Parts {
         groups: Vec::new(alloc),

@@ -1,6 +1,6 @@
 ghost use Rattle.std.specs.Prelude.{◌≡◌, ◌+◌, ◌-◌, ◌<◌, ◌≤◌, ◌++◌, ◌∷◌, [], IfOk, OnOk, MatchOption, length, replicate};
 ghost use Rattle.options_text.specs.Canonical.{canonical, line_text};
-ghost use Rattle.options_text.specs.Merging.{IsRising, Writes, comes_before, file_left, first_line, next_in, next_of, ordered};
+ghost use Rattle.options_text.specs.Merging.{IsRising, Writes, comes_before, file_left, first_line, next_in, next_of, entries_in_order};
 ghost use Rattle.options_text.specs.declared.writing.Next.TheVariants.{OfGroup, OfRule, OfNote};
 
 use crate::keyword::LogKeyword;
@@ -188,7 +188,7 @@ fn write_next(
 ) -> Result<Option<u64>, NoMemory>
     requires { IsRising (file_left left.old) }
     ensures { IfOk result (λ next. MatchOption next
-        ((ordered (file_left left.old) ≡ []) × (text.new.items ≡ text.old.items))
+        ((entries_in_order (file_left left.old) ≡ []) × (text.new.items ≡ text.old.items))
         (λ next. Writes text.old.items text.new.items at next (file_left left.old) (file_left left.new))) }
 {
     match next_in(left) {

@@ -5,7 +5,7 @@ ghost use Rattle.std.specs.Option.{option_map};
 ghost use Rattle.options_machine.specs.Rules.{applies};
 ghost use Rattle.policy.specs.Kept.{HasSameRoom, OffersNext, front_of, state_of};
 ghost use Rattle.options_machine.specs.State.{charges, in_use, is_holder, is_queuer, place, same_charge};
-ghost use Rattle.options_machine.specs.Decide.{decide, has_room, is_left_by, is_reached, matched, number_of_limit, reached, reserved, retaken};
+ghost use Rattle.options_machine.specs.Decide.{decide, has_room, is_left_by, is_reached, match_count, number_of_limit, reached_max_line, reserve_line_with_room, lingering_charge};
 ghost use Rattle.options_machine.specs.Settle.{in_time, serve, settle, timely, with_holder, with_offer, with_seat, with_seat_again, without_first};
 
 use crate::rules::DeskRules;
@@ -71,7 +71,7 @@ fn lingering_matched(rules: &DeskRules, lingering: &[Lingerer], line: &RuleLine)
 
 /// How many entries have clients that the line speaks of.
 fn matched(rules: &DeskRules, lists: &Lists, line: &RuleLine) -> usize
-    ensures { result ≡ matched rules.now (state_of lists.now) line.now }
+    ensures { result ≡ match_count rules.now (state_of lists.now) line.now }
 {
     holders_matched(rules, lists.holders.as_slice(), line)
         + lingering_matched(rules, lists.lingering.as_slice(), line)
@@ -79,7 +79,7 @@ fn matched(rules: &DeskRules, lists: &Lists, line: &RuleLine) -> usize
 
 /// The charge of the first entry that lingers for the client.
 fn retaken(lists: &Lists, client: &Client) -> Option<Charge>
-    ensures { result ≡ retaken (state_of lists.now) client.now }
+    ensures { result ≡ lingering_charge (state_of lists.now) client.now }
 {
     lists
         .lingering
@@ -99,7 +99,7 @@ fn is_reached(rules: &DeskRules, lists: &Lists, client: &Client, limit: &Limit) 
 
 /// The first MAX line that speaks of the client and is reached.
 fn reached(rules: &DeskRules, lists: &Lists, client: &Client) -> Option<u32>
-    ensures { result ≡ reached rules.now (state_of lists.now) client.now }
+    ensures { result ≡ reached_max_line rules.now (state_of lists.now) client.now }
 {
     rules
         .maxes()
@@ -129,7 +129,7 @@ fn first_with_room(rules: &DeskRules, lists: &Lists, client: &Client) -> Option<
 
 /// The first RESERVE line that speaks of the client and has room, while fewer seats are in use than there are.
 fn reserved(rules: &DeskRules, lists: &Lists, client: &Client) -> Option<u32>
-    ensures { result ≡ reserved rules.now (state_of lists.now) client.now }
+    ensures { result ≡ reserve_line_with_room rules.now (state_of lists.now) client.now }
 {
     if lists.holders.len() + lists.lingering.len() < rules.count() as usize {
         first_with_room(rules, lists, client)

@@ -14,7 +14,7 @@ use Rattle.lic_types.specs.declared.version.Version.{Version}
 use Rattle.options_machine.specs.Run.{IsBelow}
 use Rattle.options_machine.specs.Step.{set_asked}
 use Rattle.script_text.specs.declared.line.ScriptLine.{ScriptLine}
-use Rattle.scripts.specs.Walk.{IsThere, Walk, after_asked, after_line, after_lines, after_sent, asked_answer, changed_at, entry_answer, found_or, is_kept, is_named, line_answer, routed, destination, sent_answer}
+use Rattle.scripts.specs.Walk.{IsThere, Walk, after_asked, after_line, after_lines, after_sent, asked_answer, changed_at, entry_answer, found_or, is_kept, is_named, line_answer, found_by_route, destination, sent_answer}
 
 within_or : (i n at : ℕ) (b : Bool) (rest : Option ℕ) → (rest ≡ Some at → at < i + 1 + n) → cond b (Some i) rest ≡ Some at → at < i + suc n
 within_or i n at true rest h e = let same : i ≡ at = cc in omega arith
@@ -42,7 +42,7 @@ found_there p xs other k None is = k
 found_there p xs other k (Some at) is = omega (arith, position_within p 0 xs at is)
 
 module _ {X : Type 0} (walk : Walk X) where
-  there_by : (xs : List X) (name : List ℕ) (moment : ℕ) (version : Option Version) → IsThere (length xs) (routed walk xs name moment version)
+  there_by : (xs : List X) (name : List ℕ) (moment : ℕ) (version : Option Version) → IsThere (length xs) (found_by_route walk xs name moment version)
   there_by xs name moment None = found_there (is_named walk name) xs Unknown tt _ refl
   there_by xs name moment (Some version) =
       subst (λ (n : ℕ). IsThere n (route (map walk.pool xs) name version.key moment)) (length-map xs walk.pool) (route_there (map walk.pool xs) name version.key moment)
@@ -121,14 +121,14 @@ module _ {X Y : Type 0} (v : Walk X) (w : Walk Y) (line : ScriptLine) (R S : X �
   same_kept : (name : List ℕ) (x : X) (y : Y) → R x y → is_kept v name line.party x ≡ is_kept w name line.party y
   same_kept name x y k = ap (λ (b : Bool). b && v.keeps line.party x) (same_named name x y k) ∙ ap (λ (b : Bool). is_named w name y && b) (keeps x y k)
 
-  same_routed : (xs : List X) (ys : List Y) (name : List ℕ) (moment : ℕ) (version : Option Version) → AllZip R xs ys → routed v xs name moment version ≡ routed w ys name moment version
+  same_routed : (xs : List X) (ys : List Y) (name : List ℕ) (moment : ℕ) (version : Option Version) → AllZip R xs ys → found_by_route v xs name moment version ≡ found_by_route w ys name moment version
   same_routed xs ys name moment None k = ap (λ (found : Option ℕ). found_or found Unknown) (same_position (is_named v name) (is_named w name) (same_named name) 0 xs ys k)
   same_routed xs ys name moment (Some version) k = ap (λ (ps : List Pool). route ps name version.key moment) (same_map R v.pool w.pool pools xs ys k)
 
   same_sent : (xs : List X) (ys : List Y) (feature : Option (List ℕ)) → AllZip R xs ys → destination v xs line feature ≡ destination w ys line feature
   same_sent xs ys None k = refl
   same_sent xs ys (Some name) k =
-      ap (λ (found : Option ℕ). found_or found (routed v xs name line.moment line.version)) (same_position (is_kept v name line.party) (is_kept w name line.party) (same_kept name) 0 xs ys k)
+      ap (λ (found : Option ℕ). found_or found (found_by_route v xs name line.moment line.version)) (same_position (is_kept v name line.party) (is_kept w name line.party) (same_kept name) 0 xs ys k)
       ∙ ap (found_or (position_from (is_kept w name line.party) 0 ys)) (same_routed xs ys name line.moment line.version k)
 
   same_entry : (at : ℕ) (xs : List X) (ys : List Y) → AllZip R xs ys → entry_answer v line (slice_get xs at) ≡ entry_answer w line (slice_get ys at)

@@ -49,14 +49,14 @@ module _ {X : Type 0} (walk : Walk X) where
   is_kept name party x = is_named name x && walk.keeps party x
 
   -- where a line of a party that keeps no place goes: with a version to the pool that serves it at the line's own moment, and else to the first pool of the name
-  abbrev pub routed : List X → List ℕ → ℕ → Option Version → Found
-  routed xs name moment (Some version) = route (map walk.pool xs) name version.key moment
-  routed xs name moment None = found_or (position_from (is_named name) 0 xs) Unknown
+  abbrev pub found_by_route : List X → List ℕ → ℕ → Option Version → Found
+  found_by_route xs name moment (Some version) = route (map walk.pool xs) name version.key moment
+  found_by_route xs name moment None = found_or (position_from (is_named name) 0 xs) Unknown
 
   -- where a line goes that names this feature, or none: to the first pool of the name at which its party keeps a place, if there is one
   abbrev pub destination : List X → ScriptLine → Option (List ℕ) → Found
   destination xs line None = Unknown
-  destination xs line (Some name) = found_or (position_from (is_kept name line.party) 0 xs) (routed xs name line.moment line.version)
+  destination xs line (Some name) = found_or (position_from (is_kept name line.party) 0 xs) (found_by_route xs name line.moment line.version)
 
   -- what stands there after a line that went there
   abbrev pub after_sent : List X → ScriptLine → Found → List X

@@ -1,7 +1,7 @@
 ghost use Rattle.std.specs.Prelude.{◌≡◌};
 ghost use Rattle.std.specs.List.{position_from};
 ghost use Rattle.scripts.specs.PoolRuns.{pools_of, run_walk};
-ghost use Rattle.scripts.specs.Walk.{is_kept, is_named, routed, destination};
+ghost use Rattle.scripts.specs.Walk.{is_kept, is_named, found_by_route, destination};
 
 use crate::pool_run::PoolRun;
 use feature_lines::{Found, Licence};
@@ -26,7 +26,7 @@ fn first_named(runs: &[PoolRun], name: &Name) -> Option<usize>
 /// moment, and else to the first pool of the name.
 fn route(licence: &Licence, runs: &[PoolRun], line: &ScriptLine, name: &Name) -> Found
     requires { pools_of runs.now ≡ licence.now.pools }
-    ensures { result ≡ routed run_walk runs.now name.now line.now.moment line.now.version }
+    ensures { result ≡ found_by_route run_walk runs.now name.now line.now.moment line.now.version }
 {
     match line.version {
         Some(version) => licence.find(name, version, line.moment),

@@ -7,7 +7,7 @@ use Rattle.options_machine.specs.declared.rows.Holder.{Holder}
 use Rattle.options_machine.specs.declared.rows.Lingerer.{Lingerer}
 use Rattle.options_machine.specs.Rules.{IsSound, Rules}
 use Rattle.options_machine.specs.State.{State, in_use}
-use Rattle.options_machine.specs.Decide.{has_room, number_of_limit, reserved}
+use Rattle.options_machine.specs.Decide.{has_room, number_of_limit, reserve_line_with_room}
 use Rattle.options_machine.specs.Law.{IsServed}
 use Rattle.options_machine.specs.Settle.{in_time, later_moment, serve, settle, timely}
 use Rattle.options_machine.specs.Kept.{IsBounded, IsKept}
@@ -17,7 +17,7 @@ use Rattle.options_machine.proofs.Moments.{moved_within}
 use Rattle.options_machine.proofs.Stays.{served_stays}
 
 -- the first RESERVE line with room, while fewer seats are in use than there are
-pub reserved_within : (r : Rules) (s : State) (client : Client) → in_use s < r.count → reserved r s client ≡ option_map number_of_limit (find (has_room r s client) r.reserves)
+pub reserved_within : (r : Rules) (s : State) (client : Client) → in_use s < r.count → reserve_line_with_room r s client ≡ option_map number_of_limit (find (has_room r s client) r.reserves)
 reserved_within r s client h = rw (lt-ltb (in_use s) r.count h) refl
 
 -- what is over goes, and what every step keeps stays

@@ -1,6 +1,6 @@
 //! What the rules say by the counters.
 ghost use Rattle.std.specs.Prelude.{◌≡◌};
-ghost use Rattle.options_machine.specs.Decide.{decide, reached, reserved, retaken};
+ghost use Rattle.options_machine.specs.Decide.{decide, reached_max_line, reserve_line_with_room, lingering_charge};
 ghost use Rattle.seat_book.specs.Parts.{AreCounted, state_of};
 
 use crate::parts::Parts;
@@ -10,7 +10,7 @@ use policy::DeskRules;
 
 /// The charge of the first entry that lingers for the client.
 fn retaken(parts: &Parts, client: &Client) -> Option<Charge>
-    ensures { result ≡ retaken (state_of parts.now) client.now }
+    ensures { result ≡ lingering_charge (state_of parts.now) client.now }
 {
     parts.table.first(client).map(|l| l.charge)
 }
@@ -18,7 +18,7 @@ fn retaken(parts: &Parts, client: &Client) -> Option<Charge>
 /// The first MAX line that speaks of the client and is reached.
 fn reached(rules: &DeskRules, parts: &Parts, client: &Client) -> Option<u32>
     requires { AreCounted rules.now parts.now }
-    ensures { result ≡ reached rules.now (state_of parts.now) client.now }
+    ensures { result ≡ reached_max_line rules.now (state_of parts.now) client.now }
 {
     parts.counters.reached(rules, client)
 }
@@ -26,7 +26,7 @@ fn reached(rules: &DeskRules, parts: &Parts, client: &Client) -> Option<u32>
 /// The first RESERVE line that speaks of the client and has room, while fewer seats are in use than there are.
 fn reserved(rules: &DeskRules, parts: &Parts, client: &Client) -> Option<u32>
     requires { AreCounted rules.now parts.now }
-    ensures { result ≡ reserved rules.now (state_of parts.now) client.now }
+    ensures { result ≡ reserve_line_with_room rules.now (state_of parts.now) client.now }
 {
     if u64::from(parts.seats.len()) + u64::from(parts.table.len()) < u64::from(rules.count()) {
         parts.counters.reserved(rules, client)

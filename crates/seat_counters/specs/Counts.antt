@@ -5,7 +5,7 @@ use Rattle.options_machine.specs.declared.reply.Charge.{Charge}
 use Rattle.options_machine.specs.declared.reply.Charge.TheVariants.{Reserve, Open}
 use Rattle.options_machine.specs.Rules.{Rules, applies}
 use Rattle.options_machine.specs.State.{State, charges, same_charge}
-use Rattle.options_machine.specs.Decide.{matched}
+use Rattle.options_machine.specs.Decide.{match_count}
 
 -- how many seats, held or lingering, are charged to Open, how many to each RESERVE line, and how many are of clients of whom each MAX line speaks
 pub record Counts : Type 0 where
@@ -19,7 +19,7 @@ counts_of r s =
     record {
       taken = charges s Open;
       reserves = map (λ (m : Limit). charges s (Reserve m.line.line)) r.reserves;
-      maxes = map (λ (m : Limit). matched r s m.line) r.maxes;
+      maxes = map (λ (m : Limit). match_count r s m.line) r.maxes;
     }
 
 -- what they are where there is no seat

@@ -3,7 +3,7 @@ use Rattle.std.proofs.Common.{◌≡◌, ◌≢◌, ◌⊎◌, ℕ, ◌+◌, ◌
 use Rattle.kex_core.specs.declared.place.Place.{Place}
 use Rattle.kex_core.specs.declared.place.Place.TheVariants.{Out, Dec, Mark, Look, Spin, Naming, Named, Holding, Clearing, Inc, Unmark}
 use Rattle.kex_core.specs.Nets.{Plan}
-use Rattle.kex_core.specs.Worlds.{passed, value_found, after}
+use Rattle.kex_core.specs.Worlds.{place_past, value_found, after}
 use Rattle.kex_core.specs.Shapes.{plan}
 use Rattle.kex_core.specs.Costs.{bound}
 use Rattle.kex_core.proofs.Sums.{chosen, eq_test, ne_test, eq_from, ne_from}
@@ -15,21 +15,21 @@ use Rattle.seat_names.specs.declared.turns.Through.TheVariants as through
 use Rattle.seat_names.specs.Turns.{pass_in_turn, kind_in_turn, IsAgain, Stays, Turned}
 
 -- whoever has passed stage j is among the stages, unless Exit is next
-passed_in : (net : Plan) (j : ℕ) → kind_of (passed net j) ≡ entering → net.next j ≢ net.stages
+passed_in : (net : Plan) (j : ℕ) → kind_of (place_past net j) ≡ entering → net.next j ≢ net.stages
 passed_in net j k e =
-    let f : passed net j ≡ cond (eqb net.width 1) (Named 0) (Naming 0) = rw (eq_test (net.next j) net.stages e) refl in
+    let f : place_past net j ≡ cond (eqb net.width 1) (Named 0) (Naming 0) = rw (eq_test (net.next j) net.stages e) refl in
     chosen (λ (q : Place). kind_of q ≡ entering → ⊥) (eqb net.width 1) (Named 0) (Naming 0) (λ _ h. cc) (λ _ h. cc) (sym (ap kind_of f) ∙ k)
 
-passed_on : (net : Plan) (j : ℕ) → net.next j ≢ net.stages → kind_of (passed net j) ≡ entering
+passed_on : (net : Plan) (j : ℕ) → net.next j ≢ net.stages → kind_of (place_past net j) ≡ entering
 passed_on net j d = rw (ne_test (net.next j) net.stages d) refl
 
 -- at a test, and else passed
 module _ (net : Plan) (j n m : ℕ) (stop : Place) (among : kind_of stop ≡ entering) where
-  met_in : kind_of (cond (eqb n m) stop (passed net j)) ≡ entering → (n ≡ m) ⊎ (net.next j ≢ net.stages)
-  met_in = chosen (λ (q : Place). kind_of q ≡ entering → (n ≡ m) ⊎ (net.next j ≢ net.stages)) (eqb n m) stop (passed net j) (λ e _. inl (eq_from n m e)) (λ _ k. inr (passed_in net j k))
+  met_in : kind_of (cond (eqb n m) stop (place_past net j)) ≡ entering → (n ≡ m) ⊎ (net.next j ≢ net.stages)
+  met_in = chosen (λ (q : Place). kind_of q ≡ entering → (n ≡ m) ⊎ (net.next j ≢ net.stages)) (eqb n m) stop (place_past net j) (λ e _. inl (eq_from n m e)) (λ _ k. inr (passed_in net j k))
 
-  met_on : (n ≡ m) ⊎ (net.next j ≢ net.stages) → kind_of (cond (eqb n m) stop (passed net j)) ≡ entering
-  met_on w = chosen (λ (q : Place). kind_of q ≡ entering) (eqb n m) stop (passed net j) (λ _. among) (λ d. ⊎_elim (λ (e : n ≡ m). absurd (ne_from n m d e)) (passed_on net j) w)
+  met_on : (n ≡ m) ⊎ (net.next j ≢ net.stages) → kind_of (cond (eqb n m) stop (place_past net j)) ≡ entering
+  met_on w = chosen (λ (q : Place). kind_of q ≡ entering) (eqb n m) stop (place_past net j) (λ _. among) (λ d. ⊎_elim (λ (e : n ≡ m). absurd (ne_from n m d e)) (passed_on net j) w)
 
 stays_in : (net : Plan) (p : ℕ) (d : Place) (n : ℕ) → kind_of d ≡ entering → kind_of (after net p d n) ≡ entering → Stays net p d n
 stays_in net p (Dec j) n h k = met_in net j n 1 (Mark j) refl k

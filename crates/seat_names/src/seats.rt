@@ -3,7 +3,7 @@ ghost use Rattle.std.specs.Prelude.{◌≡◌, ℕ, ◌+◌, ◌*◌, ◌%◌, �
 ghost use Rattle.kex_core.specs.declared.place.Place.TheVariants.{Holding};
 ghost use Rattle.kex_core.specs.Costs.{depth};
 ghost use Rattle.kex_core.specs.Shapes.{plan};
-ghost use Rattle.kex_words.specs.Passes.{Pass, IsOut, unused, used_card, counted_card, times, times_taken, due_at, kind_of, entering};
+ghost use Rattle.kex_words.specs.Passes.{Pass, IsOut, unused_pass, used_card, counted_card, times, times_taken, due_at, kind_of, entering};
 ghost use Rattle.kex_words.specs.Steps.{numbers_of};
 ghost use Rattle.kex_words.specs.Moves.{Moved};
 ghost use Rattle.kex_words.specs.Sorts.{pass_in_next, pass_in_back, kind_in_next, kind_in_back};
@@ -56,7 +56,7 @@ impl Seats {
     pub fn make(alloc: Global, net: Net) -> Result<(Seats, Vec<Out>), NoMemory>
         ensures net { IfOk result (λ r. r.0.net ≡ net) }
         ensures count { IfOk result (λ r. vec_len r.1 ≡ net.parties) }
-        ensures passes { IfOk result (λ r. EachIndex r.1.items (λ i. slice_get r.1.items i ≡ Some (unused r.0 i))) }
+        ensures passes { IfOk result (λ r. EachIndex r.1.items (λ i. slice_get r.1.items i ≡ Some (unused_pass r.0 i))) }
         ensures own { IfOk result (λ r. All (λ p. p.table ≡ r.0) r.1.items) }
     {
         let (table, passes) = KexTable::make(alloc, net)?;

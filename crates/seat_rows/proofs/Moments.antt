@@ -6,7 +6,7 @@ use Rattle.std.specs.Prelude.{IsNone, IsSome}
 use Rattle.std.proofs.lemmas.Bool.{eqb-true, eqb-false, eq-eqb, ne_eqb, leb-true, leb-false, lt-ltb}
 use Rattle.std.proofs.lemmas.List.{get_or-set_same, get_or-set_other}
 use Rattle.linger_clock.specs.declared.Deadline.{Deadline}
-use Rattle.linger_clock.specs.Deadlines.{Deadlines, HasDistinctOwners, IsClock, is_due, is_of, placed, until_of, without}
+use Rattle.linger_clock.specs.Deadlines.{Deadlines, HasDistinctOwners, IsClock, is_due, is_of, with_deadline, until_of, without}
 use Rattle.linger_clock.proofs.CallerLemmas.{length-placed, length-without, until_of-placed, until_of-without}
 use Rattle.options_machine.specs.declared.rows.Holder.{Holder}
 use Rattle.options_machine.proofs.Counts.{find_passes}
@@ -23,7 +23,7 @@ eqb_swap a b = by (eqb b a) refl
     by true e = eq-eqb a b (sym (eqb-true b a e)) ∙ sym e
     by false e = ne_eqb a b (λ same. eqb-false b a e (sym same)) ∙ sym e
 
-pub ChangesMoment-add : (party beat : ℕ) (old new : Deadlines) → IsClock old → IsNone (until_of party old.pairs) → new ≡ record old { pairs = placed (record { owner = party; until = beat }) old.pairs } → IsClock new → ChangesMoment party (Some beat) old new
+pub ChangesMoment-add : (party beat : ℕ) (old new : Deadlines) → IsClock old → IsNone (until_of party old.pairs) → new ≡ record old { pairs = with_deadline (record { owner = party; until = beat }) old.pairs } → IsClock new → ChangesMoment party (Some beat) old new
 ChangesMoment-add party beat old new k none e kept = record {
   moments = λ q.
       ap (λ (c : Deadlines). until_of q c.pairs) e
@@ -33,7 +33,7 @@ ChangesMoment-add party beat old new k none e kept = record {
   clock = kept;
 }
 
-pub length-add : (party beat : ℕ) (old new : Deadlines) → IsClock old → IsNone (until_of party old.pairs) → new ≡ record old { pairs = placed (record { owner = party; until = beat }) old.pairs } → length new.pairs ≡ length old.pairs + 1
+pub length-add : (party beat : ℕ) (old new : Deadlines) → IsClock old → IsNone (until_of party old.pairs) → new ≡ record old { pairs = with_deadline (record { owner = party; until = beat }) old.pairs } → length new.pairs ≡ length old.pairs + 1
 length-add party beat old new k none e = ap (λ (c : Deadlines). length c.pairs) e ∙ length-placed (record { owner = party; until = beat }) old.pairs k.in_order none
 
 pub ChangesMoment-remove : (party : ℕ) (old new : Deadlines) → new ≡ record old { pairs = without party old.pairs } → IsClock new → ChangesMoment party None old new

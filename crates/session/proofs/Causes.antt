@@ -18,7 +18,7 @@ use Rattle.session_outside.specs.Talk.{Counted, Ended, Heard, ReadFault, Silence
 use Rattle.session.specs.Acts.{Act, Tell, Moment, Enter, Look, Hear, Ring, peals_of, talk_of}
 use Rattle.session.specs.Did.{HasCause, is_fault, is_ring, is_silence, is_toll}
 use Rattle.session.specs.Session.{Ends, Goes, Session, answers, breaks, closes, finishes, hears, looks, opens, overflows, stops}
-use Rattle.session.specs.Table.{Answers, AsksAny, AsksEach, Does, Setup, Leaves, Meets, Obeys, Rereads, Served, Shows, WritesAnd, desks, found_or, input_of, kept_pool, or_else, party_at, reply_to, routed}
+use Rattle.session.specs.Table.{Answers, AsksAny, AsksEach, Does, Setup, Leaves, Meets, Obeys, Rereads, Served, Shows, WritesAnd, desks, found_or, input_of, kept_pool, or_else, party_at, reply_to, found_by_route}
 use Rattle.session.specs.declared.asked.Input.{Input}
 use Rattle.session.specs.declared.asked.Input.TheVariants as input
 use Rattle.session.specs.declared.asked.Whom.{Whom}
@@ -144,7 +144,7 @@ rereads_shown o acts client n false new out h = writes_shown (told.NoRules n) []
 
 does_shown : (o : Setup) (acts : List Act) (client : Client) (i : Input) (new : List Act) (out : Option SessionEnd) → Does o acts client i new out → Shown out new
 does_shown o acts client (input.Hello other) new out h = writes_shown told.Greeted [] None out new refl h
-does_shown o acts client (input.Ask f) new out h = subst (λ (a : List Act). Shown out a) (sym h.2) (late_shown out (Moment h.0 ∷ []) h.1 refl (served_shown client f.kind h.0 (found_or (kept_pool o acts f.name) (routed o.pools f.name h.0 f.version)) h.1 out h.3))
+does_shown o acts client (input.Ask f) new out h = subst (λ (a : List Act). Shown out a) (sym h.2) (late_shown out (Moment h.0 ∷ []) h.1 refl (served_shown client f.kind h.0 (found_or (kept_pool o acts f.name) (found_by_route o.pools f.name h.0 f.version)) h.1 out h.3))
 does_shown o acts client (input.Glance name) new out h = shows_shown (or_else (kept_pool o acts name) (first_named o.pools name)) new out h
 does_shown o acts client (input.Reread n) new out h = rereads_shown o acts client n (nat_lt n o.sets) new out h
 does_shown o acts client input.Quit new out h = leaves_shown o acts (Some client) told.Bye [] ends.Quit new out refl h

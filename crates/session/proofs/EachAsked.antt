@@ -12,7 +12,7 @@ use Rattle.session.specs.Acts.{Act, Moment, Enter, moments_of, peals_of, talk_of
 use Rattle.session.specs.Asks.{AsksOnly, AsksUpTo, IsLeftIdle, LeavesIdle}
 use Rattle.session.specs.Did.{IsSilent}
 use Rattle.session.specs.Pass.{Gains, IsIdle}
-use Rattle.session.specs.Table.{AsksEach, Setup, IsAsking, desks, meant}
+use Rattle.session.specs.Table.{AsksEach, Setup, IsAsking, desks, is_desk_meant}
 use Rattle.session.specs.declared.asked.Whom.{Whom}
 use Rattle.session.specs.declared.asked.Whom.TheVariants.{Keeping}
 use Rattle.session.proofs.Counts.{follows_none, follows_then}
@@ -36,7 +36,7 @@ module _ {C K : Type 0} (account : C → Account) (gave : K → List ℕ → Typ
     pub upto_none : (xs : List C) (k : K) → AsksUpTo account gave o client whom what before 0 xs xs k k []
     upto_none xs k = record { only = only_none xs k; each = refl; later = λ j h. refl }
 
-    pub upto_passed : (i : ℕ) (xs ys : List C) (k0 k1 : K) (new : List Act) → meant whom o before i ≡ false → AsksUpTo account gave o client whom what before i xs ys k0 k1 new → AsksUpTo account gave o client whom what before (i + 1) xs ys k0 k1 new
+    pub upto_passed : (i : ℕ) (xs ys : List C) (k0 k1 : K) (new : List Act) → is_desk_meant whom o before i ≡ false → AsksUpTo account gave o client whom what before i xs ys k0 k1 new → AsksUpTo account gave o client whom what before (i + 1) xs ys k0 k1 new
     upto_passed i xs ys k0 k1 new e h = record {
       only = h.only;
       each = subst (λ n. AsksEach client what (desks whom o before n) new) (sym (add-one i))
@@ -44,7 +44,7 @@ module _ {C K : Type 0} (account : C → Account) (gave : K → List ℕ → Typ
       later = λ k below. h.later k (omega arith);
     }
 
-    pub upto_asked : (i at : ℕ) (a : Asking) (xs ys zs : List C) (k0 k1 k2 : K) (new : List Act) → meant whom o before i ≡ true → IsAsking client what at a → Follows gave k1 k2 (at ∷ []) → Gains account (Enter i a ∷ []) ys zs
+    pub upto_asked : (i at : ℕ) (a : Asking) (xs ys zs : List C) (k0 k1 k2 : K) (new : List Act) → is_desk_meant whom o before i ≡ true → IsAsking client what at a → Follows gave k1 k2 (at ∷ []) → Gains account (Enter i a ∷ []) ys zs
         → AsksUpTo account gave o client whom what before i xs ys k0 k1 new → AsksUpTo account gave o client whom what before (i + 1) xs zs k0 k2 (new ++ Moment at ∷ Enter i a ∷ [])
     upto_asked i at a xs ys zs k0 k1 k2 new e asked f g h = record {
       only = record {

@@ -19,7 +19,7 @@ use Rattle.options_machine.specs.declared.reply.Kind.TheVariants as kind
 use Rattle.session_outside.specs.Talk.{Ended, Heard, ReadFault, Silence}
 use Rattle.session.specs.Acts.{Act, Tell, Hear, Ring, talk_of}
 use Rattle.session.specs.Session.{Ends, Goes, answers, breaks, closes, finishes, hears, looks, opens, overflows, stops}
-use Rattle.session.specs.Table.{Answers, AsksAny, AsksEach, Does, Setup, Leaves, Meets, Obeys, Rereads, Served, Shows, WritesAnd, desks, found_or, input_of, kept_pool, or_else, party_at, reply_to, routed}
+use Rattle.session.specs.Table.{Answers, AsksAny, AsksEach, Does, Setup, Leaves, Meets, Obeys, Rereads, Served, Shows, WritesAnd, desks, found_or, input_of, kept_pool, or_else, party_at, reply_to, found_by_route}
 use Rattle.session.specs.declared.asked.Input.{Input}
 use Rattle.session.specs.declared.asked.Input.TheVariants as input
 use Rattle.session.specs.declared.asked.Whom.{Whom}
@@ -72,7 +72,7 @@ rereads_heard o acts client n false new out h = writes_heard (told.NoRules n) []
 
 does_heard : (o : Setup) (acts : List Act) (client : Client) (i : Input) (new : List Act) (out : Option SessionEnd) → Does o acts client i new out → heard_of new ≡ []
 does_heard o acts client (input.Hello other) new out h = writes_heard told.Greeted [] None out new refl h
-does_heard o acts client (input.Ask f) new out h = ap heard_of h.2 ∙ served_heard client f.kind h.0 (found_or (kept_pool o acts f.name) (routed o.pools f.name h.0 f.version)) h.1 out h.3
+does_heard o acts client (input.Ask f) new out h = ap heard_of h.2 ∙ served_heard client f.kind h.0 (found_or (kept_pool o acts f.name) (found_by_route o.pools f.name h.0 f.version)) h.1 out h.3
 does_heard o acts client (input.Glance name) new out h = shows_heard (or_else (kept_pool o acts name) (first_named o.pools name)) new out h
 does_heard o acts client (input.Reread n) new out h = rereads_heard o acts client n (nat_lt n o.sets) new out h
 does_heard o acts client input.Quit new out h = leaves_heard o acts (Some client) told.Bye [] ends.Quit new out refl h

@@ -12,7 +12,7 @@ use Rattle.session.specs.Asks.{is_meant_at}
 use Rattle.session.specs.Did.{Agrees, StandsAt}
 use Rattle.session.specs.Pass.{AreIdle, Gained, Gains}
 use Rattle.session.specs.Session.{setup_of}
-use Rattle.session.specs.Table.{Setup, holding, is_meant, meant, party_at}
+use Rattle.session.specs.Table.{Setup, is_holding_at, is_meant, is_desk_meant, party_at}
 use Rattle.session.specs.declared.asked.Whom.{Whom}
 
 pub standing_append : (p : ℕ) (o : Option Reply) (xs ys : List Entry) → standing_from p o (xs ++ ys) ≡ standing_from p (standing_from p o xs) ys
@@ -71,21 +71,21 @@ module _ {C D : Type 0} (account : C → Account) (v : View D) where
   }
 
   -- a desk is meant where its counter is
-  pub meant_is : (o : Setup) (before : List Act) (xs : List C) (whom : Whom) (j : ℕ) (c : C) → Agrees account v o before xs → j < length xs → is_meant_at whom (account (get_or xs j c)) ≡ meant whom o before j
+  pub meant_is : (o : Setup) (before : List Act) (xs : List C) (whom : Whom) (j : ℕ) (c : C) → Agrees account v o before xs → j < length xs → is_meant_at whom (account (get_or xs j c)) ≡ is_desk_meant whom o before j
   meant_is o before xs whom j c h below =
       let s = h.each j c below in
-      ap (λ b. is_meant whom b (queues (account (get_or xs j c)).mine (account (get_or xs j c)).party)) s.holds ∙ ap (λ b. is_meant whom (holding o before j) b) s.queues
+      ap (λ b. is_meant whom b (queues (account (get_or xs j c)).mine (account (get_or xs j c)).party)) s.holds ∙ ap (λ b. is_meant whom (is_holding_at o before j) b) s.queues
 
-pub same_at : (whom : Whom) (o : Setup) (before new : List Act) (j : ℕ) → askings j new ≡ [] → meant whom o (before ++ new) j ≡ meant whom o before j
+pub same_at : (whom : Whom) (o : Setup) (before new : List Act) (j : ℕ) → askings j new ≡ [] → is_desk_meant whom o (before ++ new) j ≡ is_desk_meant whom o before j
 same_at whom o before new j e =
     let es : entries j (before ++ new) ≡ entries j before = entries_append j before new ∙ ap (λ (l : List Asking). entries j before ++ map (λ (a : Asking). a.entry) l) e ∙ append-nil (entries j before) in
     ap (λ (l : List Entry). is_meant whom (holds l (party_at o j)) (queues l (party_at o j))) es
 
 -- the same of the pools that a session keeps
-pub keeps_is : {C : Type 0} (account : C → Account) (o : Setup) (ps : List Rattle.feature_lines.specs.declared.pool.Pool.Pool) (before : List Act) (xs : List C) (whom : Whom) (j : ℕ) (c : C) → Rattle.session.specs.Finding.Keeps account o ps before xs → j < length xs → is_meant_at whom (account (get_or xs j c)) ≡ meant whom o before j
+pub keeps_is : {C : Type 0} (account : C → Account) (o : Setup) (ps : List Rattle.feature_lines.specs.declared.pool.Pool.Pool) (before : List Act) (xs : List C) (whom : Whom) (j : ℕ) (c : C) → Rattle.session.specs.Finding.Keeps account o ps before xs → j < length xs → is_meant_at whom (account (get_or xs j c)) ≡ is_desk_meant whom o before j
 keeps_is account o ps before xs whom j c h below =
     let s = h.each j c below in
-    ap (λ b. is_meant whom b (queues (account (get_or xs j c)).mine (account (get_or xs j c)).party)) s.holds ∙ ap (λ b. is_meant whom (holding o before j) b) s.queues
+    ap (λ b. is_meant whom b (queues (account (get_or xs j c)).mine (account (get_or xs j c)).party)) s.holds ∙ ap (λ b. is_meant whom (is_holding_at o before j) b) s.queues
 
 -- at the opening nothing is kept
 pub agrees_opening : {C D : Type 0} (account : C → Account) (v : View D) (cs : List C) → AreIdle account cs → Agrees account v (setup_of account v cs) [] cs

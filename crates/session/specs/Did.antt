@@ -7,7 +7,7 @@ use Rattle.options_machine.specs.Own.{holds, queues}
 use Rattle.session_outside.specs.Talk.{Counted, Event, Follows, HasRisen, Heard, Silence, Ended, ReadFault, Wrote, WriteFault}
 use Rattle.session.specs.Acts.{Act, Answered, Peal, Rung, moments_of, peals_of, talk_of}
 use Rattle.session.specs.Pass.{Gains}
-use Rattle.session.specs.Table.{Setup, holding, party_at, queued}
+use Rattle.session.specs.Table.{Setup, is_holding_at, party_at, is_queued_at}
 use Rattle.session.specs.declared.end.SessionEnd.{SessionEnd}
 use Rattle.session.specs.declared.end.SessionEnd.TheVariants as ends
 
@@ -72,8 +72,8 @@ pub record IsSilent (acts : List Act) : Type 0 where
 -- a counter stands where the session does: it is the setup's party, and holds and waits where the session does
 pub record StandsAt (o : Setup) (acts : List Act) (j : ℕ) (a : Account) : Type 0 where
   pub party : a.party ≡ party_at o j
-  pub holds : holds a.mine a.party ≡ holding o acts j
-  pub queues : queues a.mine a.party ≡ queued o acts j
+  pub holds : holds a.mine a.party ≡ is_holding_at o acts j
+  pub queues : queues a.mine a.party ≡ is_queued_at o acts j
 
 -- the setup is of this office, and the counters stand where the session does
 pub record Agrees {C D : Type 0} (account : C → Account) (v : View D) (o : Setup) (acts : List Act) (cs : List C) : Type 0 where

@@ -8,7 +8,7 @@ use Rattle.office_view.specs.View.{View}
 use Rattle.options_machine.specs.declared.reply.Kind.TheVariants as kind
 use Rattle.session_outside.specs.Talk.{Heard, Silence, Ended, ReadFault}
 use Rattle.session.specs.Acts.{Act, Tell, Hear}
-use Rattle.session.specs.Table.{Answers, AsksAny, GivesBack, Setup, meant}
+use Rattle.session.specs.Table.{Answers, AsksAny, GivesBack, Setup, is_desk_meant}
 use Rattle.session.specs.declared.asked.Whom.TheVariants.{Holding, Keeping}
 use Rattle.session.specs.declared.end.SessionEnd.{SessionEnd}
 use Rattle.session.specs.declared.end.SessionEnd.TheVariants as ends
@@ -46,7 +46,7 @@ pub record Session (o : Setup) (acts : List Act) (end : SessionEnd) : Type 0 whe
 
 -- after these acts no desk's standing entry is of holding or of queueing
 pub record KeepsNothing (o : Setup) (acts : List Act) : Type 0 where
-  pub idle : (j : ℕ) → j < length o.pools → meant Keeping o acts j ≡ false
+  pub idle : (j : ℕ) → j < length o.pools → is_desk_meant Keeping o acts j ≡ false
 
 -- where a step leaves a session: it goes on and no whole line waits, or it is at its end
 abbrev pub Leads : Setup → List Act → Option Client → List ℕ → Option SessionEnd → Type 0

@@ -41,12 +41,12 @@ abbrev pub party_at : Setup → ℕ → ℕ
 party_at o j = get_or o.parties j 0
 
 -- whether the session is holding on a desk, by its own entries there
-abbrev pub holding : Setup → List Act → ℕ → Bool
-holding o acts j = holds (entries j acts) (party_at o j)
+abbrev pub is_holding_at : Setup → List Act → ℕ → Bool
+is_holding_at o acts j = holds (entries j acts) (party_at o j)
 
 -- the same of waiting, or of having a seat that it wasn't told of
-abbrev pub queued : Setup → List Act → ℕ → Bool
-queued o acts j = queues (entries j acts) (party_at o j)
+abbrev pub is_queued_at : Setup → List Act → ℕ → Bool
+is_queued_at o acts j = queues (entries j acts) (party_at o j)
 
 -- whether a desk is meant, by whether the session is holding and whether it is queued there
 abbrev pub is_meant : Whom → Bool → Bool → Bool
@@ -55,13 +55,13 @@ is_meant Keeping holds queues = holds || queues
 is_meant Everyone holds queues = true
 
 -- whether a desk is meant after these acts
-abbrev pub meant : Whom → Setup → List Act → ℕ → Bool
-meant whom o acts j = is_meant whom (holding o acts j) (queued o acts j)
+abbrev pub is_desk_meant : Whom → Setup → List Act → ℕ → Bool
+is_desk_meant whom o acts j = is_meant whom (is_holding_at o acts j) (is_queued_at o acts j)
 
 -- the desks below n that are meant, in order
 abbrev pub desks : Whom → Setup → List Act → ℕ → List ℕ
 desks whom o acts zero = []
-desks whom o acts (suc n) = desks whom o acts n ++ (if meant whom o acts n then n ∷ [] else [])
+desks whom o acts (suc n) = desks whom o acts n ++ (if is_desk_meant whom o acts n then n ∷ [] else [])
 
 -- the first pool that passes a test, counted from j
 abbrev pub first_from : (ℕ → Pool → Bool) → ℕ → List Pool → Option ℕ
@@ -70,7 +70,7 @@ first_from test j (p ∷ ps) = if test j p then Some j else first_from test (j +
 
 -- the first pool of a name on which the session is holding or queued
 abbrev pub kept_pool : Setup → List Act → List ℕ → Option ℕ
-kept_pool o acts name = first_from (λ j p. same_name p.name name && meant Keeping o acts j) 0 o.pools
+kept_pool o acts name = first_from (λ j p. same_name p.name name && is_desk_meant Keeping o acts j) 0 o.pools
 
 -- the first of two places that there is
 abbrev pub or_else : Option ℕ → Option ℕ → Option ℕ
@@ -83,9 +83,9 @@ found_or (Some j) other = At j
 found_or None other = other
 
 -- where a request goes whose session keeps no place at a pool of that name: with a version it is routed, else to the first pool of the name
-abbrev pub routed : List Pool → List ℕ → ℕ → Option Version → Found
-routed pools name at (Some version) = route pools name version.key at
-routed pools name at None = found_or (first_named pools name) Unknown
+abbrev pub found_by_route : List Pool → List ℕ → ℕ → Option Version → Found
+found_by_route pools name at (Some version) = route pools name version.key at
+found_by_route pools name at None = found_or (first_named pools name) Unknown
 
 -- the line is written, with this after it, and the session goes on to `next`; or the write fails after a front of the line, and the session is at its end
 abbrev pub WritesAnd : Told → List Act → Option SessionEnd → List Act → Option SessionEnd → Type 0
@@ -141,7 +141,7 @@ Served client what at (Expired day) new out = Writes (told.Expired day) None new
 abbrev pub Serves : Setup → List Act → Client → Feature → List Act → Option SessionEnd → Type 0
 Serves o acts client f new out =
     (at : ℕ) × (later : List Act) × (new ≡ Moment at ∷ later)
-    × Served client f.kind at (found_or (kept_pool o acts f.name) (routed o.pools f.name at f.version)) later out
+    × Served client f.kind at (found_or (kept_pool o acts f.name) (found_by_route o.pools f.name at f.version)) later out
 
 -- a glance, where its pool was sought
 abbrev pub Shows : Option ℕ → List Act → Option SessionEnd → Type 0

@@ -7,7 +7,7 @@ ghost use Rattle.session.specs.Acts.{Act};
 ghost use Rattle.session.specs.Asks.{is_meant_at};
 ghost use Rattle.session.specs.Did.{Agrees};
 ghost use Rattle.session.specs.Finding.{Keeps};
-ghost use Rattle.session.specs.Table.{Setup, found_or, kept_pool, or_else, routed};
+ghost use Rattle.session.specs.Table.{Setup, found_or, kept_pool, or_else, found_by_route};
 ghost use Rattle.session.specs.declared.asked.Whom.TheVariants.{Keeping};
 
 use counter::Counter;
@@ -38,7 +38,7 @@ fn kept_pool<C: Counter>(pools: &[Pool], pass: &[C], name: &Name) -> Option<usiz
 
 /// Where a request goes whose session keeps no place at a pool of that name.
 fn routed<D>(office: &OfficeView<D>, name: &Name, at: u64, version: Option<Version>) -> Found
-    ensures found { result ≡ routed office.now.pools name.now at version }
+    ensures found { result ≡ found_by_route office.now.pools name.now at version }
     ensures there { IsThere (length office.now.pools) result }
 {
     match version {
@@ -59,7 +59,7 @@ pub(crate) fn find<C: Counter>(
     version: Option<Version>,
 ) -> Found
     requires { length pass.now ≡ length office.now.pools }
-    ensures found { (o : Setup) (before : List Act) → Agrees C.account office.now o before pass.now → result ≡ found_or (kept_pool o before name.now) (routed o.pools name.now at version) }
+    ensures found { (o : Setup) (before : List Act) → Agrees C.account office.now o before pass.now → result ≡ found_or (kept_pool o before name.now) (found_by_route o.pools name.now at version) }
     ensures there { IsThere (length office.now.pools) result }
 {
     match kept_pool(office.pools(), pass, name) {

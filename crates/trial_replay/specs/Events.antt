@@ -6,8 +6,8 @@ use Rattle.options_machine.specs.declared.reply.Kind.TheVariants.{Beat, Checkin,
 use Rattle.options_machine.specs.declared.reply.Request.{Request}
 
 -- the number of an event, mixed: 32 bits, of which the highest four give the party and the two lowest of the next four the kind
-abbrev pub mixed : ℕ → ℕ
-mixed event = event * 2654435761 % 2 ^ 32
+abbrev pub mixed_number : ℕ → ℕ
+mixed_number event = event * 2654435761 % 2 ^ 32
 
 -- the moment of an event
 abbrev pub moment_of : ℕ → ℕ
@@ -15,7 +15,7 @@ moment_of event = 10 * event
 
 -- the party of an event, below 16
 abbrev pub party_of : ℕ → ℕ
-party_of event = mixed event / 2 ^ 28
+party_of event = mixed_number event / 2 ^ 28
 
 -- the kind of this number: a version that is asked for is 1.0, the pool's own
 abbrev pub kind_numbered : ℕ → Kind
@@ -27,7 +27,7 @@ kind_numbered number =
 
 -- what an event asks
 abbrev pub kind_of : ℕ → Kind
-kind_of event = kind_numbered (mixed event / 2 ^ 24 % 4)
+kind_of event = kind_numbered (mixed_number event / 2 ^ 24 % 4)
 
 -- the client of a party: two parties are of one user, and each has a host of its own
 abbrev pub client_of : ℕ → Client

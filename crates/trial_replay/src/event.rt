@@ -2,7 +2,7 @@
 ghost use Rattle.std.specs.Prelude.{◌≡◌, ◌∷◌, [], IfOk, decimal, true};
 ghost use Rattle.lic_types.specs.Name.{is_name_byte};
 ghost use Rattle.trial_replay.specs.Clients.{clients_below};
-ghost use Rattle.trial_replay.specs.Events.{client_of, kind_numbered, mixed, moment_of, party_of, request_of};
+ghost use Rattle.trial_replay.specs.Events.{client_of, kind_numbered, mixed_number, moment_of, party_of, request_of};
 
 use lic_types::{Client, Name};
 use no_memory::NoMemory;
@@ -64,7 +64,7 @@ pub(crate) fn all_clients(alloc: Global) -> Result<Vec<Client>, NoMemory>
 /// The number of an event, mixed: the highest four bits give its party, and the two lowest of the next four what it
 /// asks.
 fn mixed(event: u32) -> u32
-    ensures { result ≡ mixed event }
+    ensures { result ≡ mixed_number event }
 {
     (u64::from(event) * MULTIPLIER % (1 << 32)) as u32
 }

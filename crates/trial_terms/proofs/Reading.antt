@@ -24,7 +24,7 @@ use Rattle.feature_lines.specs.declared.line.Said.TheVariants.{Feature as Grants
 use Rattle.lic_types.specs.declared.day.Expiry.TheVariants.{Never}
 use Rattle.lic_types.specs.Name.{is_name_byte}
 use Rattle.options_text.specs.Options.{options_of}
-use Rattle.options_text.specs.Texts.{closed_text, spaced}
+use Rattle.options_text.specs.Texts.{closed_text, spaced_text}
 use Rattle.options_text.proofs.Closings.{continued_behind, ends_other, ends_step, no_return}
 use Rattle.options_text.proofs.Tokens.{IsToken, closed_free, words_closed}
 use Rattle.trial_terms.specs.Terms.{licence_text, no_options, trial_pool}
@@ -75,13 +75,13 @@ module _ (n : ℕ) (low : n < 2 ^ 64) where
   words = codes "trial" ∷ codes "v" ∷ codes "1.0" ∷ codes "permanent" ∷ decimal n ∷ []
 
   -- the text, as its words with spaces between
-  text_is : spaced (codes "FEATURE") words ≡ licence_text n
+  text_is : spaced_text (codes "FEATURE") words ≡ licence_text n
   text_is = ap (λ ds. codes "FEATURE trial v 1.0 permanent " ++ ds) (append-nil (decimal n))
 
   ends : is_continued (licence_text n) ≡ false
   ends = continued_behind (codes "FEATURE trial v 1.0 permanent") (decimal n) ∙ digits_end (decimal n) digits
 
-  closed_is : closed_text (spaced (codes "FEATURE") words) ≡ licence_text n
+  closed_is : closed_text (spaced_text (codes "FEATURE") words) ≡ licence_text n
   closed_is = ap closed_text text_is ∙ rw ends refl
 
   all_tokens : AllByRecursion IsToken words

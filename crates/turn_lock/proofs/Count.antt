@@ -13,7 +13,7 @@ use Rattle.turn_lock.specs.declared.view.Stage.TheVariants.{Out, Counted}
 use Rattle.turn_lock.specs.declared.view.View.{View}
 use Rattle.turn_lock.specs.Passes.{Pass}
 use Rattle.turn_lock.specs.Rule.{has_ticket, has_entry, is_out, weight, tickets_in, entries_in, Stays, Fits, Ruled}
-use Rattle.turn_lock.specs.Steps.{seated_view, longer, counted}
+use Rattle.turn_lock.specs.Steps.{seated_view, longer, extends_history}
 use Rattle.pass_roles.proofs.Members.{total_set, total_none, each_set, set_at}
 use Rattle.turn_lock.proofs.Stays.{stays_longer, entry_has}
 use Rattle.turn_lock.proofs.Owned.{own_other, own_mine}
@@ -55,7 +55,7 @@ module _ {V L Q A : Type 0} (law_of : V → L) (party : Q → ℕ) (run : L → 
   counts_known history e made maker_seat owner p id j d Spent by at other f = record { idle = f.idle }
 
   pub counts_entry : (slots id : ℕ) (me : M) (p : P) (t : ℕ) (c : List (ℕ × Option V)) (e : Entry Q A) → me ≡ (seated_view p (Out t), c) → run p.law (p.seen ++ e ∷ []) → party e.request ≡ p.number
-      → Allows Rule slots id me 2 (λ x. x) (counted (e ∷ []) (step slots 2 0 0 none) me)
+      → Allows Rule slots id me 2 (λ x. x) (extends_history (e ∷ []) (step slots 2 0 0 none) me)
   counts_entry slots id me p t c e eq ran by s r _ at _ = let is : me.0.role ≡ Party p.number = ap (λ (x : M). x.0.role) eq in let out : me.0.stage ≡ Out t = ap (λ (x : M). x.0.stage) eq in
       let seen_is : me.0.seen ≡ p.seen = ap (λ (x : M). x.0.seen) eq in let k = stage_is law_of party run stands law n s r id me.0 (Out t) at out in let known = knows law_of party run stands law n s r id p.number me.0 at is in let his : r.holder r.served ≡ id = ap r.holder (sym k.0) ∙ k.2 in
       let w : W = record me.0 { stage = Counted t; seen = me.0.seen ++ e ∷ []; mine = me.0.mine ++ e ∷ [] } in let h' : List (Entry Q A) = r.history ++ e ∷ [] in let wide = r.wide in

@@ -9,7 +9,7 @@ use Rattle.turn_lock.specs.declared.view.Stage.TheVariants.{Idle, Home}
 use Rattle.turn_lock.specs.declared.view.View.{View}
 use Rattle.turn_lock.specs.Passes.{Pass}
 use Rattle.turn_lock.specs.Rule.{has_ticket, has_entry, is_out, Ruled}
-use Rattle.turn_lock.specs.Steps.{seated_view, passed}
+use Rattle.turn_lock.specs.Steps.{seated_view, hands_on_turn}
 use Rattle.turn_lock.proofs.Stays.{stays_passed}
 use Rattle.turn_lock.proofs.Keeps.{restage, knows, stage_is, value_stays}
 
@@ -32,7 +32,7 @@ module _ {V L Q A : Type 0} (law_of : V → L) (party : Q → ℕ) (run : L → 
   abbrev Rule : St → Type 0
   Rule = Ruled law_of party run stands law n
 
-  pub passes_on : (slots id : ℕ) (me : M) (p : P) (t : ℕ) → me ≡ (seated_view p (Home t), []) → Allows Rule slots id me 2 (λ x. (x + 1) % 2 ^ 64) (passed (step slots 2 1 0 none) me)
+  pub passes_on : (slots id : ℕ) (me : M) (p : P) (t : ℕ) → me ≡ (seated_view p (Home t), []) → Allows Rule slots id me 2 (λ x. (x + 1) % 2 ^ 64) (hands_on_turn (step slots 2 1 0 none) me)
   passes_on slots id me p t e s r _ at _ = let is : me.0.role ≡ Party p.number = ap (λ (x : M). x.0.role) e in let home : me.0.stage ≡ Home t = ap (λ (x : M). x.0.stage) e in
       let known = knows law_of party run stands law n s r id p.number me.0 at is in let wide = r.wide in let k = stage_is law_of party run stands law n s r id me.0 (Home t) at home in let his : r.holder r.served ≡ id = ap r.holder (sym k.0) ∙ k.2 in (
         record me.0 { stage = Idle },

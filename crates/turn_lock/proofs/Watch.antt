@@ -12,7 +12,7 @@ use Rattle.turn_lock.specs.declared.view.Stage.TheVariants.{Waiting, Turn}
 use Rattle.turn_lock.specs.declared.view.View.{View}
 use Rattle.turn_lock.specs.Passes.{Pass}
 use Rattle.turn_lock.specs.Rule.{has_ticket, has_entry, is_out, Ruled}
-use Rattle.turn_lock.specs.Steps.{seated_view, watched}
+use Rattle.turn_lock.specs.Steps.{seated_view, watches_turn}
 use Rattle.turn_lock.proofs.Keeps.{stage_is, few_tickets, reload}
 
 module _ {V L Q A : Type 0} (law_of : V → L) (party : Q → ℕ) (run : L → List (Entry Q A) → Type 0) (stands : V → List (Entry Q A) → Type 0) (law : L) (n : ℕ) where
@@ -34,7 +34,7 @@ module _ {V L Q A : Type 0} (law_of : V → L) (party : Q → ℕ) (run : L → 
   abbrev Rule : St → Type 0
   Rule = Ruled law_of party run stands law n
 
-  pub watches : (slots id : ℕ) (me : M) (p : P) (t : ℕ) → n ≤ 256 → me ≡ (seated_view p (Waiting t), []) → Allows Rule slots id me 2 (λ x. x) (watched (step slots 2 0 0 none) me)
+  pub watches : (slots id : ℕ) (me : M) (p : P) (t : ℕ) → n ≤ 256 → me ≡ (seated_view p (Waiting t), []) → Allows Rule slots id me 2 (λ x. x) (watches_turn (step slots 2 0 0 none) me)
   watches slots id me p t small e s r _ at _ = let is : me.0.role ≡ Party p.number = ap (λ (x : M). x.0.role) e in let waits : me.0.stage ≡ Waiting t = ap (λ (x : M). x.0.stage) e in let k = stage_is law_of party run stands law n s r id me.0 (Waiting t) at waits in let few = few_tickets law_of party run stands law n s r in let drawn = r.tickets in
       let same : (p' : P) (t' : ℕ) → me ≡ (seated_view p' (Waiting t'), []) → t ≡ t' = λ p' t' e'. (let q : Waiting t ≡ Waiting t' = sym waits ∙ ap (λ (x : M). x.0.stage) e' in cc) in
       dite (ℕ_discrete (get_or s.words 2 0) (t % 2 ^ 64))

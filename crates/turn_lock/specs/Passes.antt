@@ -32,8 +32,8 @@ pub record IsSetUp (id : TableId) (told parties : ℕ) : Type 0 where
   pub few : parties ≤ PASS_LIMIT
 
 -- a pass that was never used
-abbrev pub unused : {L Q A : Type 0} → Lock L → ℕ → Pass L Q A
-unused k p = record { lock = k.id; number = p; law = k.law; seen = []; mine = [] }
+abbrev pub unused_lock_pass : {L Q A : Type 0} → Lock L → ℕ → Pass L Q A
+unused_lock_pass k p = record { lock = k.id; number = p; law = k.law; seen = []; mine = [] }
 
 -- what is known of the value and of the count when a lock was closed with all its passes
 pub record Closes {V L Q A : Type 0} (party : Q → ℕ) (run : L → List (Entry Q A) → Type 0) (stands : V → List (Entry Q A) → Type 0)

@@ -86,13 +86,13 @@ module _ {S L Q A : Type 0} where
       → (n ≡ st.first → (t : ℕ) × (n ≡ t % 2 ^ 64) × (m' ≡ (seated_view p (Waiting t), []))) × (n ≢ st.first → m' ≡ m)
 
   -- the turn has come where the serving word is the ticket's
-  abbrev pub watched : Step S → Me S (View L Q A) → ℕ → Me S (View L Q A) → Type 0
-  watched st m n m' = (p : Pass L Q A) (t : ℕ) → m ≡ (seated_view p (Waiting t), [])
+  abbrev pub watches_turn : Step S → Me S (View L Q A) → ℕ → Me S (View L Q A) → Type 0
+  watches_turn st m n m' = (p : Pass L Q A) (t : ℕ) → m ≡ (seated_view p (Waiting t), [])
       → (n ≡ t % 2 ^ 64 → m' ≡ (seated_view p (Turn t), [])) × (n ≢ t % 2 ^ 64 → m' ≡ m)
 
   -- the entry is in the history, and the number found is that of the entries before it
-  abbrev pub counted : List (Entry Q A) → Step S → Me S (View L Q A) → ℕ → Me S (View L Q A) → Type 0
-  counted es st m n m' = (p : Pass L Q A) (t : ℕ) (c : List (ℕ × S)) → m ≡ (seated_view p (Out t), c)
+  abbrev pub extends_history : List (Entry Q A) → Step S → Me S (View L Q A) → ℕ → Me S (View L Q A) → Type 0
+  extends_history es st m n m' = (p : Pass L Q A) (t : ℕ) (c : List (ℕ × S)) → m ≡ (seated_view p (Out t), c)
       → (m' ≡ (seated_view (longer p es) (Counted t), c)) × (n ≡ length p.seen % 2 ^ 64)
 
   -- the value is at home again
@@ -101,8 +101,8 @@ module _ {S L Q A : Type 0} where
       → m' ≡ (seated_view p (Home t), [])
 
   -- the turn was handed on
-  abbrev pub passed : Step S → Me S (View L Q A) → ℕ → Me S (View L Q A) → Type 0
-  passed st m n m' = (p : Pass L Q A) (t : ℕ) → m ≡ (seated_view p (Home t), [])
+  abbrev pub hands_on_turn : Step S → Me S (View L Q A) → ℕ → Me S (View L Q A) → Type 0
+  hands_on_turn st m n m' = (p : Pass L Q A) (t : ℕ) → m ≡ (seated_view p (Home t), [])
       → m' ≡ (seated_view p Idle, [])
 
 module _ {V L Q A : Type 0} (law_of : V → L) (party : Q → ℕ) (run : L → List (Entry Q A) → Type 0) (stands : V → List (Entry Q A) → Type 0) where

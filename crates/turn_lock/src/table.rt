@@ -75,9 +75,9 @@ impl<S, L, Q, A> Play<S, View<L, Q, A>> for Claim {
 pub(crate) struct Watch;
 
 impl<S, L, Q, A> Play<S, View<L, Q, A>> for Watch {
-    ghost use Rattle.turn_lock.specs.Steps.{watched};
+    ghost use Rattle.turn_lock.specs.Steps.{watches_turn};
 
-    ghost then = { watched };
+    ghost then = { watches_turn };
 }
 
 /// Loads the serving word: the value goes out with the seat.
@@ -112,9 +112,9 @@ pub(crate) struct Count<J> {
 }
 
 impl<S, L, Q, A, J: Saying<Q, A>> Play<S, View<L, Q, A>> for Count<J> {
-    ghost use Rattle.turn_lock.specs.Steps.{counted};
+    ghost use Rattle.turn_lock.specs.Steps.{extends_history};
 
-    ghost then = { counted J.said };
+    ghost then = { extends_history J.said };
 }
 
 /// Loads the serving word: the value goes home.
@@ -130,9 +130,9 @@ impl<S, L, Q, A> Play<S, View<L, Q, A>> for Give {
 pub(crate) struct Next;
 
 impl<S, L, Q, A> Play<S, View<L, Q, A>> for Next {
-    ghost use Rattle.turn_lock.specs.Steps.{passed};
+    ghost use Rattle.turn_lock.specs.Steps.{hands_on_turn};
 
-    ghost then = { passed };
+    ghost then = { hands_on_turn };
 }
 
 /// A new pass's view is cut off the maker's.

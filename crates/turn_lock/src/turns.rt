@@ -4,7 +4,7 @@ ghost use Rattle.turn_lock.specs.declared.kept.Entry.{Entry};
 ghost use Rattle.turn_lock.specs.declared.table.TheConstants.{PASS_LIMIT};
 ghost use Rattle.turn_lock.specs.declared.view.Stage.TheVariants.{Idle, Waiting, Turn, Out, Counted};
 ghost use Rattle.turn_lock.specs.Entries.{entry, own};
-ghost use Rattle.turn_lock.specs.Passes.{Pass, Closes, unused};
+ghost use Rattle.turn_lock.specs.Passes.{Pass, Closes, unused_lock_pass};
 ghost use Rattle.turn_lock.specs.Steps.{knows, maker, seated_view, pass_with_seen, longer, StandsFor, StepsBy, IsAtRest, IsGathered};
 
 use crate::kept::{Kept, Stepped};
@@ -131,7 +131,7 @@ impl<V: Kept> Turns<V> {
         ensures lock { IfOk result (λ r. (r.0.id.parties ≡ n) × (r.0.law ≡ V.law value)) }
         ensures count { IfOk result (λ r. vec_len r.1 ≡ n) }
         ensures theirs { IfOk result (λ r. All (λ p. p.lock ≡ r.0.id) r.1.items × All (λ p. p.law ≡ r.0.law) r.1.items) }
-        ensures passes { IfOk result (λ r. EachIndex r.1.items (λ i. slice_get r.1.items i ≡ Some (unused r.0 i))) }
+        ensures passes { IfOk result (λ r. EachIndex r.1.items (λ i. slice_get r.1.items i ≡ Some (unused_lock_pass r.0 i))) }
         ensures refused { IfErr result (λ e. e.1 ≡ value) }
     {
         let Ok(mut passes) = Vec::with_capacity(alloc, n as usize) else {
@@ -232,7 +232,7 @@ impl<V: Kept> Turns<V> {
         requires opens { seat.old.me ≡ (maker self.now.law 0, []) }
         requires room { (passes.old.items ≡ []) × (self.now.id.parties ≤ vec_capacity passes.old) }
         ensures count { vec_len passes.new ≡ self.now.id.parties }
-        ensures dealt { EachIndex passes.new.items (λ i. slice_get passes.new.items i ≡ Some (unused self.now i)) }
+        ensures dealt { EachIndex passes.new.items (λ i. slice_get passes.new.items i ≡ Some (unused_lock_pass self.now i)) }
     {
         for number in 0..self.parties {
             let other = self.table.shared.split_seat::<Deal>(seat);

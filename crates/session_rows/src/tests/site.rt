@@ -3,7 +3,7 @@ ghost use Rattle.std.specs.Prelude.{◌≡◌, ◌∷◌, [], IfOk, None, vec_le
 ghost use Rattle.options_machine.specs.Law.{AreSets};
 ghost use Rattle.options_machine.specs.State.{set_at};
 ghost use Rattle.options_machine.specs.Step.{set_asked};
-ghost use Rattle.turn_lock.specs.Passes.{unused};
+ghost use Rattle.turn_lock.specs.Passes.{unused_lock_pass};
 ghost use Rattle.session_rows.specs.Office.{IsManned};
 
 use crate::{LoggedBook, TurnCounter};
@@ -105,7 +105,7 @@ fn new_desk(
     requires { AreSets sets.items (set_at sets.items 0).count }
     ensures sets { IfOk result (λ r. r.0.law.sets ≡ sets.items) }
     ensures parties { IfOk result (λ r. (r.0.id.parties ≡ 2) × (r.0.law.parties ≡ 2)) }
-    ensures passes { IfOk result (λ r. (r.1 ≡ unused r.0 0) × (r.2 ≡ unused r.0 1)) }
+    ensures passes { IfOk result (λ r. (r.1 ≡ unused_lock_pass r.0 0) × (r.2 ≡ unused_lock_pass r.0 1)) }
 {
     let book = PlainBook::make_many(alloc, sets, PARTIES)?;
     let log = Vec::with_capacity(alloc, LOG_ROOM)?;

@@ -1,7 +1,7 @@
 use Rattle.std.proofs.Common.{◌≡◌, ℕ, ◌+◌, ◌++◌, ◌∷◌, [], List, reverse, length, vec_len, ap, sym, ◌∙◌, subst, arith, length-append}
 use Rattle.stat_board.specs.Fronts.{Front}
 use Rattle.pass_roles.proofs.Members.{all_cut, front_of}
-use Rattle.turn_lock.specs.Passes.{Lock, unused}
+use Rattle.turn_lock.specs.Passes.{Lock, unused_lock_pass}
 use Rattle.desk_book.specs.declared.book.DeskLaw.{DeskLaw}
 use Rattle.desk_book.specs.Askers.{Asker, asker_of, newcomer}
 use Rattle.desk_book.proofs.Pairs.{all_made, newcomers, one_more, popped_is, popped_left}
@@ -13,7 +13,7 @@ loop-ticket-preserved c =
     let i = c.loop-ticket.invariant in
     let e = front_of _ _ _ _ c.pop.ensures.items c.in-Some.is in
     let f = front_of _ _ _ _ c.pop-in-Some.ensures.items c.in-Some-pop.is in
-    let t = popped_is (λ (n : ℕ). unused l n) c.loop-ticket.tickets.items c.pop.new.self.items c.in-Some.ticket e i.1 in
+    let t = popped_is (λ (n : ℕ). unused_lock_pass l n) c.loop-ticket.tickets.items c.pop.new.self.items c.in-Some.ticket e i.1 in
     let v = all_cut (λ (b : Front). b ≡ l.law.board) c.loop-ticket.views.items c.pop-in-Some.new.self.items c.in-Some-pop.view f i.2 in
     let n : length c.loop-ticket.tickets.items ≡ length c.pop.new.self.items + 1 = ap length e ∙ length-append c.pop.new.self.items (c.in-Some.ticket ∷ []) in
     let m : length c.loop-ticket.views.items ≡ length c.pop-in-Some.new.self.items + 1 = ap length f ∙ length-append c.pop-in-Some.new.self.items (c.in-Some-pop.view ∷ []) in
@@ -24,7 +24,7 @@ loop-ticket-preserved c =
     let made : reverse c.loop-ticket.passes.items ≡ newcomers l (length c.pop.new.self.items + 1) (length c.loop-ticket.passes.items) = i.3 ∙ ap (λ (q : ℕ). newcomers l q (length c.loop-ticket.passes.items)) (omega (arith, n, a)) in
     let more = one_more l (length c.pop.new.self.items) c.loop-ticket.passes.items c.of.result who made in (
       omega (arith, n, m, a, b, x, y, z),
-      popped_left (λ (q : ℕ). unused l q) c.loop-ticket.tickets.items c.pop.new.self.items c.in-Some.ticket e i.1,
+      popped_left (λ (q : ℕ). unused_lock_pass l q) c.loop-ticket.tickets.items c.pop.new.self.items c.in-Some.ticket e i.1,
       v.0,
       subst (λ (w : List Asker). reverse w ≡ newcomers l (vec_len c.pop.new.self) (length w)) (sym c.push_reserved.ensures.items) (more ∙ ap (λ (q : ℕ). newcomers l q (length (c.loop-ticket.passes.items ++ c.of.result ∷ []))) (sym b)),
       omega (arith, sum, k, n, a, b),

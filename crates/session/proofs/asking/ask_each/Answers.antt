@@ -2,7 +2,7 @@ use Rattle.std.proofs.Common.{◌≡◌, ◌++◌, ◌∷◌, ◌∙◌, [], Lis
 use Rattle.session.specs.Acts.{Act, Moment, Enter}
 use Rattle.session.specs.Asks.{AsksUpTo, LeavesIdle}
 use Rattle.session.specs.Did.{Agrees}
-use Rattle.session.specs.Table.{Setup, meant}
+use Rattle.session.specs.Table.{Setup, is_desk_meant}
 use Rattle.session.proofs.EachAsked.{idle_asked, idle_passed, not_kept, upto_asked, upto_none, upto_passed}
 use Rattle.session.proofs.Standing.{agrees_then, meant_is, same_at}
 use Rattle.session.proofs.asking.ask_each.Goals as goal
@@ -19,7 +19,7 @@ pub loop-i-preserved : goal.loop-i-preserved
 loop-i-preserved g c =
     let account = g.C.Counter.account in
     -- the counter is meant where the session's desk is
-    let same : (o : Setup) (before : List Act) (agrees : Agrees account c.args.office.now o before c.args.pass.now) → c.is_meant.result ≡ meant c.args.whom o before c.loop-i.i =
+    let same : (o : Setup) (before : List Act) (agrees : Agrees account c.args.office.now o before c.args.pass.now) → c.is_meant.result ≡ is_desk_meant c.args.whom o before c.loop-i.i =
     λ o before agrees.
     let r = c.loop-i.invariant.asked o before agrees in
     c.is_meant.ensures

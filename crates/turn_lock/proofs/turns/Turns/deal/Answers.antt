@@ -1,5 +1,5 @@
 use Rattle.std.proofs.Common.{◌≡◌, refl, arith, ap, ◌∙◌, sym, subst, slice_get, Some, EachIndex}
-use Rattle.turn_lock.specs.Passes.{unused}
+use Rattle.turn_lock.specs.Passes.{unused_lock_pass}
 use Rattle.turn_lock.proofs.Split.{deals}
 use Rattle.pass_roles.proofs.Members.{each_more}
 use Rattle.turn_lock.proofs.Seats.{dealt_on, came_new, is_pass, badge_of}
@@ -18,8 +18,8 @@ loop-number-preserved g c = let i = c.loop-number.invariant in let e = c.split_s
   dealt_on _ _ _ _ i.1 e.2,
   omega arith,
   omega arith,
-  subst (λ z. EachIndex z (λ j. slice_get z j ≡ Some (unused lock j))) (sym q.items)
-      (each_more (unused lock) c.loop-number.passes.items _ i.4
-      (is_pass _ _ _ _ (unused lock c.loop-number.number) (badge_of _ _ (unused lock c.loop-number.number) (came_new _ _ _ lock.id _ i.1 e.4) c.into_badge.ensures.2) (λ k. record { table = (c.into_badge.ensures.0 ∙ (e.3 ∙ i.0)) k; parties = ap (λ z. z.id.parties) c.self.view_is k }) refl
-      ∙ ap (unused lock) (sym i.2 ∙ c.loop-number.passes.ok.0))),
+  subst (λ z. EachIndex z (λ j. slice_get z j ≡ Some (unused_lock_pass lock j))) (sym q.items)
+      (each_more (unused_lock_pass lock) c.loop-number.passes.items _ i.4
+      (is_pass _ _ _ _ (unused_lock_pass lock c.loop-number.number) (badge_of _ _ (unused_lock_pass lock c.loop-number.number) (came_new _ _ _ lock.id _ i.1 e.4) c.into_badge.ensures.2) (λ k. record { table = (c.into_badge.ensures.0 ∙ (e.3 ∙ i.0)) k; parties = ap (λ z. z.id.parties) c.self.view_is k }) refl
+      ∙ ap (unused_lock_pass lock) (sym i.2 ∙ c.loop-number.passes.ok.0))),
 )
