@@ -1,5 +1,6 @@
 //! The words of a reply.
 ghost use Rattle.std.specs.Prelude.{◌≡◌, ◌+◌, ◌≤◌, ◌++◌, decimal, length, take};
+ghost use Rattle.options_machine.specs.declared.reply.Reply.TheVariants.{Counts};
 ghost use Rattle.reply_words.specs.Words.{charge_text, own_text, reply_text};
 
 use crate::room::{put, put_number};
@@ -46,6 +47,31 @@ fn put_own(room: &mut [u8], at: usize, own: bool, queued: bool) -> usize
     }
 }
 
+/// Writes the words of a desk's counts behind the first `at` bytes of a room, and gives the offset behind them. They
+/// take 119 bytes at most.
+fn put_counts(
+    room: &mut [u8],
+    at: usize,
+    held: u32,
+    lingering: u32,
+    taken: u32,
+    free: u32,
+    own: bool,
+    queued: bool,
+) -> usize
+    requires { at + 119 ≤ length room.old }
+    ensures room { length room.new ≡ length room.old }
+    ensures offset { result ≤ at + 119 }
+    ensures written { take result room.new ≡ take at room.old ++ reply_text (Counts held lingering taken free own queued) }
+{
+    let at = put_numbered(room, at, b"COUNTS HELD ", held);
+    let at = put_numbered(room, at, b" LINGERING ", lingering);
+    let at = put_numbered(room, at, b" OPEN ", taken);
+    let at = put_numbered(room, at, b" OF ", free);
+    let at = put(room, at, b" OWN ");
+    put_own(room, at, own, queued)
+}
+
 /// Writes the words of a reply behind the first `at` bytes of a room, and gives the offset behind them. They take 130
 /// bytes at most.
 #[tactic(auto, using(std::proofs::lemmas::List::append_assoc))]
@@ -85,14 +111,7 @@ pub fn put_reply(room: &mut [u8], at: usize, reply: &Reply) -> usize
             free,
             own,
             queued,
-        } => {
-            let at = put_numbered(room, at, b"COUNTS HELD ", *held);
-            let at = put_numbered(room, at, b" LINGERING ", *lingering);
-            let at = put_numbered(room, at, b" OPEN ", *taken);
-            let at = put_numbered(room, at, b" OF ", *free);
-            let at = put(room, at, b" OWN ");
-            put_own(room, at, *own, *queued)
-        }
+        } => put_counts(room, at, *held, *lingering, *taken, *free, *own, *queued),
         Reply::Queued(position) => put_numbered(room, at, b"QUEUED ", *position),
         Reply::Unqueued => put(room, at, b"UNQUEUED"),
         Reply::Reread(set) => put_numbered(room, at, b"REREAD ", *set),
