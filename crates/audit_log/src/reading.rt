@@ -149,9 +149,9 @@ pub fn is_summary(line: &Line<'_>) -> bool
 ///
 /// 1. `UnknownWord` where the first word isn't ENTRY.
 /// 2. `WordCount` where the line has fewer than 11 words.
-/// 3. The words up to KIND from left to right: `BadNumber` for a pool, a place, a moment or a party that is no number or is
-///    out of its range, or a place that has no # before it; `BadName` for a user, host, display or project that is no
-///    name; `UnknownWord` for a KIND that is none.
+/// 3. The words up to KIND from left to right: `BadNumber` for a pool, a place, a moment or a party that is no number
+///    or is out of its range, or a place that has no # before it; `BadName` for a user, host, display or project that
+///    is no name; `UnknownWord` for a KIND that is none.
 /// 4. `UnknownWord` where the words behind KIND aren't exactly those of a reply; of KIND REREAD, where they aren't
 ///    REREAD and a number.
 pub fn read_entry(line: &Line<'_>) -> Result<Logged, ScriptFault>

@@ -18,10 +18,11 @@ use std::alloc::Global;
 /// Judges the entries of a log by a licence and one to four options files, of which the first holds until an entry asks
 /// for another by its number, from 0. The entries of each pool are run in the log's order. The answer is
 ///
-/// - `Yes` exactly where the log is a run: each pool's entries stand at the places 0, 1, 2 and so on, no moment goes back, and
-///   each reply is the machine's.
-/// - `No` exactly where it is none, with the first line that shows it. Its place, moment and reply are those that hold there,
-///   also where the line's own are wrong. In the place of a request for a rule set that there isn't, a look of its party holds.
+/// - `Yes` exactly where the log is a run: each pool's entries stand at the places 0, 1, 2 and so on, no moment goes
+///   back, and each reply is the machine's.
+/// - `No` exactly where it is none, with the first line that shows it. Its place, moment and reply are those that hold
+///   there, also where the line's own are wrong. In the place of a request for a rule set that there isn't, a look of
+///   its party holds.
 /// - `NoMemory` where there is too little memory to hold the books or the sums. There is no other fault.
 pub fn audit_entries(
     alloc: Global,
@@ -50,8 +51,8 @@ pub fn audit_entries(
 /// Judges a log by a licence and one to four options files, as `audit_entries` does with the entries that `read_log`
 /// reads. The answer is that of the first of these that has one:
 ///
-/// - `Log` exactly where a line can't be read, with the first such line. `read_entry` tells the faults; besides, a pool that
-///   the licence doesn't have is `BadNumber`, where the line has no other fault.
+/// - `Log` exactly where a line can't be read, with the first such line. `read_entry` tells the faults; besides, a pool
+///   that the licence doesn't have is `BadNumber`, where the line has no other fault.
 /// - `Yes` or `No` by the entries.
 /// - `NoMemory` where there is too little memory to hold the entries, the books or the sums.
 ///
