@@ -14,7 +14,7 @@ use Rattle.script_words.specs.Fields.{and_then}
 use Rattle.script_words.specs.declared.fault.ScriptWord.{ScriptWord}
 use Rattle.script_words.specs.declared.fault.ScriptWord.TheVariants.{UnknownWord}
 use Rattle.audit_log.specs.Laws.{IsCharge, IsReply, RepliesReadBack}
-use Rattle.audit_log.specs.Replies.{alone, bare_of, behind, charge_of, counts_of, exact, last_32, last_64, no_seat_of, own_of, own_and_words, printed_number, reply_by, reply_of, number_behind_word}
+use Rattle.audit_log.specs.Replies.{alone, bare_of, behind, charge_of, counts_of, exact, last_32, last_64, no_seat_of, number_behind_word, own_and_words, own_of, printed_number, reply_by, reply_of}
 use Rattle.script_words.proofs.Tokens.{IsToken, last, next, number_back, token_number}
 
 -- Numbers and words behind one another, read.

@@ -2,7 +2,7 @@
 ghost use Rattle.std.specs.Prelude.{◌≡◌, ◌≤◌, ◌^◌, List, ℕ, Bool, Ok, Err, IfOk, MatchResult};
 ghost use Rattle.lic_text.specs.Left.{words_left};
 ghost use Rattle.lic_text.specs.Number.{number_of};
-ghost use Rattle.audit_log.specs.Replies.{alone, bare_of, behind, charge_of, counts_of, exact, no_seat_of, own_and_words, printed_number, reply_by, reply_of, number_behind_word};
+ghost use Rattle.audit_log.specs.Replies.{alone, bare_of, behind, charge_of, counts_of, exact, no_seat_of, number_behind_word, own_and_words, printed_number, reply_by, reply_of};
 
 use itoa::Buffer;
 use lic_text::{Words, number};

@@ -8,7 +8,7 @@ use Rattle.seat_names.specs.declared.turns.Turn.TheVariants as seats
 use Rattle.seat_names.specs.Turns as names
 use Rattle.kex_gate.specs.declared.passes.GateTurn.{GateTurn}
 use Rattle.kex_gate.specs.declared.passes.GateTurn.TheVariants as gate
-use Rattle.kex_gate.specs.Passes.{Gate, GateHeld, Guest, Way, seats_of, guest_with_visit}
+use Rattle.kex_gate.specs.Passes.{Gate, GateHeld, Guest, Way, guest_with_visit, seats_of}
 use Rattle.kex_gate.specs.Turns.{Met, fast_in_turn, guest_in_turn, met_in_turn, turn_in}
 use Rattle.desk_seats.specs.declared.turns.SeatTurn.{SeatTurn}
 use Rattle.desk_seats.specs.Passes.{SeatHeld, SeatPass, gate_held, guest_pass, plain_pass, way_held, way_pass, way_through}

@@ -16,7 +16,7 @@ use Rattle.std.specs.Ordering.{bool_cmp, is_eq, is_lt, nat_cmp, ordering_index, 
 use Rattle.std.specs.declared.cmp.Ordering.{Ordering}
 use Rattle.std.specs.declared.cmp.Ordering.TheVariants.{Less, Equal, Greater}
 use Rattle.lic_types.specs.Groups.{GroupLine, same_name}
-use Rattle.group_roster.specs.Listings.{ListingOf, group_print, member_listing, listing_cmp, print_after, print_of}
+use Rattle.group_roster.specs.Listings.{ListingOf, group_print, listing_cmp, member_listing, print_after, print_of}
 use Rattle.group_roster.specs.Rosters.{IsInOrder, listing_at, listing_in, lists, memberships, memberships_of}
 use Rattle.group_roster.specs.declared.roster.Membership.{Membership}
 

@@ -3,7 +3,7 @@ use Rattle.std.specs.List.{list_any}
 use Rattle.std.specs.List.Sorted.{IsSortedBy}
 use Rattle.std.specs.Ordering.{is_eq, is_lt}
 use Rattle.lic_types.specs.Groups.{GroupLine, same_name}
-use Rattle.group_roster.specs.Listings.{ListingOf, group_print, member_listing, listing_cmp, print_after}
+use Rattle.group_roster.specs.Listings.{ListingOf, group_print, listing_cmp, member_listing, print_after}
 use Rattle.group_roster.specs.declared.roster.Membership.{Membership}
 
 -- what the member at a place of a group line is listed as, with this print

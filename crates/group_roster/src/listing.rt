@@ -1,6 +1,6 @@
 //! What a membership says, and the order in which memberships are looked up.
 ghost use Rattle.std.specs.Prelude.{◌≡◌};
-ghost use Rattle.group_roster.specs.Listings.{group_print, member_listing, listing_cmp, print_after};
+ghost use Rattle.group_roster.specs.Listings.{group_print, listing_cmp, member_listing, print_after};
 
 use lic_types::Name;
 use std::cmp::Ordering;

@@ -1,6 +1,6 @@
 //! The making of a table.
 ghost use Rattle.std.specs.Prelude.{◌≡◌, ◌≤◌, [], Some, IfOk, EachIndex, vec_len, vec_capacity, slice_get};
-ghost use Rattle.kex_words.specs.Passes.{OpensWords, unused_pass, unused_card};
+ghost use Rattle.kex_words.specs.Passes.{OpensWords, unused_card, unused_pass};
 ghost use Rattle.kex_words.specs.Steps.{maker};
 
 use crate::card::Card;

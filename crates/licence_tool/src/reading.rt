@@ -7,7 +7,7 @@ ghost use Rattle.options_text.specs.Options.{OptionsFile};
 ghost use Rattle.log_audit.specs.Log.{is_fit as is_fit_at};
 ghost use Rattle.script_text.specs.Fits.{is_fit};
 ghost use Rattle.licence_tool.specs.Asked.{Asks, HasFailed, IsOf};
-ghost use Rattle.licence_tool.specs.Outcome.{value_or_status, bytes_or_status, licence_heard, log_heard, options_heard, options_status, position_of_set, script_heard, sets_heard};
+ghost use Rattle.licence_tool.specs.Outcome.{bytes_or_status, licence_heard, log_heard, options_heard, options_status, position_of_set, script_heard, sets_heard, value_or_status};
 ghost use Rattle.licence_tool.specs.Tool.{AreHeard, IsHeard, RefusalSays, status_of};
 
 use crate::status::Status;

@@ -7,7 +7,7 @@ use Rattle.std.proofs.lemmas.Bool.{eqb-true, eqb-false, leb-true, lt-ltb}
 use Rattle.std.proofs.lemmas.List.{get_or-set_same, get_or-set_other, map-append, map-set, take-map}
 use Rattle.std.proofs.Math.Seq.{map-set_same}
 use Rattle.linger_clock.specs.declared.Deadline.{Deadline}
-use Rattle.linger_clock.specs.Deadlines.{Deadlines, IsClock, is_due, with_deadline, until_of, without}
+use Rattle.linger_clock.specs.Deadlines.{Deadlines, IsClock, is_due, until_of, with_deadline, without}
 use Rattle.linger_clock.proofs.CallerLemmas.{length-placed, length-without, until_of-placed, until_of-without}
 use Rattle.options_machine.specs.declared.reply.Charge.{Charge}
 use Rattle.options_machine.specs.declared.rows.Lingerer.{Lingerer}

@@ -16,7 +16,7 @@ use Rattle.options_machine.specs.declared.rows.Lingerer.{Lingerer}
 use Rattle.options_machine.specs.declared.rows.Queuer.{Queuer}
 use Rattle.options_machine.specs.Rules.{IsSound, Rules, applies, cut_of}
 use Rattle.options_machine.specs.State.{State, charges, entries, in_use, is_holder, is_queuer, same_charge}
-use Rattle.options_machine.specs.Decide.{decide, excluding_line, has_room, is_left_by, unmet_include_line, number_of_limit, reached_max_line, reserve_line_with_room, lingering_charge, unless}
+use Rattle.options_machine.specs.Decide.{decide, excluding_line, has_room, is_left_by, lingering_charge, number_of_limit, reached_max_line, reserve_line_with_room, unless, unmet_include_line}
 use Rattle.options_machine.specs.Settle.{in_time, later_moment, serve, settle, timely, with_offer, with_queuer, with_seat, with_seat_again, without_first}
 use Rattle.options_machine.specs.Kept.{IsKept}
 use Rattle.options_machine.proofs.Places.{length-with_holder}

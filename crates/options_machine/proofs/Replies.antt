@@ -22,7 +22,7 @@ use Rattle.options_machine.specs.declared.rows.Holder.{Holder}
 use Rattle.options_machine.specs.declared.rows.Queuer.{Queuer}
 use Rattle.options_machine.specs.Rules.{Rules}
 use Rattle.options_machine.specs.State.{State, charges, in_force, in_use, place}
-use Rattle.options_machine.specs.Decide.{decide, excluding_line, has_room, is_reached, unmet_include_line, number_of_limit, reached_max_line, reserve_line_with_room, lingering_charge, unless}
+use Rattle.options_machine.specs.Decide.{decide, excluding_line, has_room, is_reached, lingering_charge, number_of_limit, reached_max_line, reserve_line_with_room, unless, unmet_include_line}
 use Rattle.options_machine.specs.Step.{answer_by_decision, answer_of, answer_of_return, entry_left, lingers, set_asked, set_of, standing_of, step_of_task, task, to_away, to_told, to_untold, to_waiting}
 use Rattle.options_machine.specs.Own.{is_of_holding, is_of_queueing}
 use Rattle.options_machine.specs.Replies.{IsBarredInQueue, IsDenied, IsFull, IsGranted, IsLeft, IsRetaken, IsToldLate, asks_such, state_found, gives_back, goes_at_once, is_about_own_seat, is_for_seat, is_for_standing, is_giving_back, is_of_own_seat, is_pending, is_told, is_waiting, asks_for_seat, line_of_denial, reply_to, rules_found}

@@ -16,7 +16,7 @@ use Rattle.options_machine.specs.declared.rows.Queuer.{Queuer}
 use Rattle.lic_types.specs.Groups.{same_name}
 use Rattle.options_machine.specs.Rules.{Rules, applies}
 use Rattle.options_machine.specs.State.{State, charges, in_use}
-use Rattle.options_machine.specs.Decide.{decide, excluding_line, has_room, is_left_by, is_reached, is_seat, match_count, unmet_include_line, number_of_limit, reached_max_line, reserve_line_with_room, lingering_charge, same_client, unless}
+use Rattle.options_machine.specs.Decide.{decide, excluding_line, has_room, is_left_by, is_reached, is_seat, lingering_charge, match_count, number_of_limit, reached_max_line, reserve_line_with_room, same_client, unless, unmet_include_line}
 use Rattle.options_machine.specs.Settle.{serve, settle, timely, with_offer, with_queuer, with_seat, with_seat_again, without_first}
 use Rattle.options_machine.specs.Law.{IsServed}
 use Rattle.options_machine.proofs.Counts.{and_left, and_right, any_weaker, count-with_holder, count-without_first, find_passes, some_found}

@@ -5,7 +5,7 @@ use Rattle.lic_types.specs.declared.client.RuleLine.{RuleLine}
 use Rattle.lic_types.specs.declared.note.Note.{Note}
 use Rattle.options_text.specs.Canonical.{entry_text, in_line_order, insert_entry, line_text, passes, text_from}
 use Rattle.options_text.specs.Entries.{line_of}
-use Rattle.options_text.specs.Merging.{IsRising, Writes, comes_before, first_line, next_in, entries_in_order}
+use Rattle.options_text.specs.Merging.{IsRising, Writes, comes_before, entries_in_order, first_line, next_in}
 use Rattle.options_text.specs.Options.{OptionsFile}
 use Rattle.options_text.specs.Rises.{AreRising, Rises}
 use Rattle.options_text.specs.Texts.{group_text, log_name, rule_text}

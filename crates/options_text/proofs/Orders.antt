@@ -7,7 +7,7 @@ use Rattle.lic_types.specs.declared.client.RuleLine.{RuleLine}
 use Rattle.lic_types.specs.declared.note.Note.{Note}
 use Rattle.options_text.specs.Answers.{◌>>=◌}
 use Rattle.options_text.specs.Entries.{entries_after, is_fit, is_within_limits, line_of}
-use Rattle.options_text.specs.Options.{IsOrderly, OptionsFile, first_undefined, group_in, log_in, note_in, options_of, rule_in, options_among, unless_undefined, with_groups_defined}
+use Rattle.options_text.specs.Options.{IsOrderly, OptionsFile, first_undefined, group_in, log_in, note_in, options_among, options_of, rule_in, unless_undefined, with_groups_defined}
 use Rattle.options_text.specs.declared.entry.Entry.{Entry}
 use Rattle.options_text.specs.declared.entry.Entry.TheVariants.{Lists, Rules, Passes}
 use Rattle.options_text.specs.Names.{line_undefined}

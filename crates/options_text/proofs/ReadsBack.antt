@@ -12,7 +12,7 @@ use Rattle.options_text.specs.Canonical.{canonical, entries_of, entry_text, in_l
 use Rattle.options_text.specs.Entries.{entries_after, entry_after, entry_behind, line_of, members_in, unless_crowded}
 use Rattle.options_text.specs.Forms.{entry_of}
 use Rattle.options_text.specs.Laws.{CanonicalReadsBack, CanonicalStays}
-use Rattle.options_text.specs.Options.{IsSaid, OptionsFile, first_undefined, group_in, log_in, note_in, options_of, rule_in, options_among, unless_undefined, with_groups_defined}
+use Rattle.options_text.specs.Options.{IsSaid, OptionsFile, first_undefined, group_in, log_in, note_in, options_among, options_of, rule_in, unless_undefined, with_groups_defined}
 use Rattle.options_text.specs.Rises.{Rises}
 use Rattle.options_text.specs.Texts.{further, spaced_text}
 use Rattle.options_text.specs.declared.entry.Entry.{Entry}

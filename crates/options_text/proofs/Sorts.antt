@@ -1,7 +1,7 @@
 use Rattle.std.proofs.Common.{◌≡◌, List, [], ◌∷◌, ◌++◌, Option, None, Some, refl, ap, ◌∙◌}
 use Rattle.std.specs.List.{filter_map}
 use Rattle.std.proofs.lemmas.List.Elements.{filter_map-append}
-use Rattle.options_text.specs.Options.{and_one, group_in, log_in, note_in, rule_in, options_among, with_entry}
+use Rattle.options_text.specs.Options.{and_one, group_in, log_in, note_in, options_among, rule_in, with_entry}
 use Rattle.options_text.specs.declared.entry.Entry.{Entry}
 
 one_more : {X Y : Type 0} (h : X → Option Y) (x : X) → filter_map h (x ∷ []) ≡ Rattle.std.specs.Option.option_to_list (h x)

@@ -1,6 +1,6 @@
 ghost use Rattle.std.specs.Prelude.{◌≡◌, ◌+◌, ◌-◌, ◌<◌, ◌≤◌, ◌++◌, ◌∷◌, [], IfOk, OnOk, MatchOption, length, replicate};
 ghost use Rattle.options_text.specs.Canonical.{canonical, line_text};
-ghost use Rattle.options_text.specs.Merging.{IsRising, Writes, comes_before, file_left, first_line, next_in, next_of, entries_in_order};
+ghost use Rattle.options_text.specs.Merging.{IsRising, Writes, comes_before, entries_in_order, file_left, first_line, next_in, next_of};
 ghost use Rattle.options_text.specs.declared.writing.Next.TheVariants.{OfGroup, OfRule, OfNote};
 
 use crate::keyword::LogKeyword;

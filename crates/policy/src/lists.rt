@@ -5,7 +5,7 @@ ghost use Rattle.std.specs.Option.{option_map};
 ghost use Rattle.options_machine.specs.Rules.{applies};
 ghost use Rattle.policy.specs.Kept.{HasSameRoom, OffersNext, front_of, state_of};
 ghost use Rattle.options_machine.specs.State.{charges, in_use, is_holder, is_queuer, place, same_charge};
-ghost use Rattle.options_machine.specs.Decide.{decide, has_room, is_left_by, is_reached, match_count, number_of_limit, reached_max_line, reserve_line_with_room, lingering_charge};
+ghost use Rattle.options_machine.specs.Decide.{decide, has_room, is_left_by, is_reached, lingering_charge, match_count, number_of_limit, reached_max_line, reserve_line_with_room};
 ghost use Rattle.options_machine.specs.Settle.{in_time, serve, settle, timely, with_holder, with_offer, with_seat, with_seat_again, without_first};
 
 use crate::rules::DeskRules;

@@ -1,6 +1,6 @@
 //! What the rules say by the counters.
 ghost use Rattle.std.specs.Prelude.{◌≡◌};
-ghost use Rattle.options_machine.specs.Decide.{decide, reached_max_line, reserve_line_with_room, lingering_charge};
+ghost use Rattle.options_machine.specs.Decide.{decide, lingering_charge, reached_max_line, reserve_line_with_room};
 ghost use Rattle.seat_book.specs.Parts.{AreCounted, state_of};
 
 use crate::parts::Parts;

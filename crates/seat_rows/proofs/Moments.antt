@@ -6,7 +6,7 @@ use Rattle.std.specs.Prelude.{IsNone, IsSome}
 use Rattle.std.proofs.lemmas.Bool.{eqb-true, eqb-false, eq-eqb, ne_eqb, leb-true, leb-false, lt-ltb}
 use Rattle.std.proofs.lemmas.List.{get_or-set_same, get_or-set_other}
 use Rattle.linger_clock.specs.declared.Deadline.{Deadline}
-use Rattle.linger_clock.specs.Deadlines.{Deadlines, HasDistinctOwners, IsClock, is_due, is_of, with_deadline, until_of, without}
+use Rattle.linger_clock.specs.Deadlines.{Deadlines, HasDistinctOwners, IsClock, is_due, is_of, until_of, with_deadline, without}
 use Rattle.linger_clock.proofs.CallerLemmas.{length-placed, length-without, until_of-placed, until_of-without}
 use Rattle.options_machine.specs.declared.rows.Holder.{Holder}
 use Rattle.options_machine.proofs.Counts.{find_passes}

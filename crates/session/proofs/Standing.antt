@@ -12,7 +12,7 @@ use Rattle.session.specs.Asks.{is_meant_at}
 use Rattle.session.specs.Did.{Agrees, StandsAt}
 use Rattle.session.specs.Pass.{AreIdle, Gained, Gains}
 use Rattle.session.specs.Session.{setup_of}
-use Rattle.session.specs.Table.{Setup, is_holding_at, is_meant, is_desk_meant, party_at}
+use Rattle.session.specs.Table.{Setup, is_desk_meant, is_holding_at, is_meant, party_at}
 use Rattle.session.specs.declared.asked.Whom.{Whom}
 
 pub standing_append : (p : ℕ) (o : Option Reply) (xs ys : List Entry) → standing_from p o (xs ++ ys) ≡ standing_from p (standing_from p o xs) ys

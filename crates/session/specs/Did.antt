@@ -7,7 +7,7 @@ use Rattle.options_machine.specs.Own.{holds, queues}
 use Rattle.session_outside.specs.Talk.{Counted, Event, Follows, HasRisen, Heard, Silence, Ended, ReadFault, Wrote, WriteFault}
 use Rattle.session.specs.Acts.{Act, Answered, Peal, Rung, moments_of, peals_of, talk_of}
 use Rattle.session.specs.Pass.{Gains}
-use Rattle.session.specs.Table.{Setup, is_holding_at, party_at, is_queued_at}
+use Rattle.session.specs.Table.{Setup, is_holding_at, is_queued_at, party_at}
 use Rattle.session.specs.declared.end.SessionEnd.{SessionEnd}
 use Rattle.session.specs.declared.end.SessionEnd.TheVariants as ends
 

@@ -7,7 +7,7 @@ ghost use Rattle.session.specs.Acts.{Act};
 ghost use Rattle.session.specs.Asks.{is_meant_at};
 ghost use Rattle.session.specs.Did.{Agrees};
 ghost use Rattle.session.specs.Finding.{Keeps};
-ghost use Rattle.session.specs.Table.{Setup, found_or, kept_pool, or_else, found_by_route};
+ghost use Rattle.session.specs.Table.{Setup, found_by_route, found_or, kept_pool, or_else};
 ghost use Rattle.session.specs.declared.asked.Whom.TheVariants.{Keeping};
 
 use counter::Counter;

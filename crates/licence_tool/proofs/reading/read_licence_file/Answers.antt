@@ -1,7 +1,7 @@
 use Rattle.std.proofs.Common.{ap}
 use Rattle.std.proofs.lemmas.Result.{err_from_is_err_and}
 use Rattle.feature_lines.specs.Licence.{licence_of}
-use Rattle.licence_tool.specs.Outcome.{value_or_status, licence_heard}
+use Rattle.licence_tool.specs.Outcome.{licence_heard, value_or_status}
 use Rattle.licence_tool.specs.declared.status.Status.TheVariants.{Licence}
 use Rattle.licence_tool.proofs.Hearing.{judged, refusal_wider, unheard}
 use Rattle.licence_tool.proofs.reading.read_licence_file.Goals as goal

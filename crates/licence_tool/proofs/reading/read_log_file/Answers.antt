@@ -1,7 +1,7 @@
 use Rattle.std.proofs.Common.{ap}
 use Rattle.std.proofs.lemmas.Result.{err_from_is_err_and}
 use Rattle.log_audit.specs.Log.{log_of}
-use Rattle.licence_tool.specs.Outcome.{value_or_status, log_heard}
+use Rattle.licence_tool.specs.Outcome.{log_heard, value_or_status}
 use Rattle.licence_tool.specs.declared.status.Status.TheVariants.{Script}
 use Rattle.licence_tool.proofs.Hearing.{judged, unheard}
 use Rattle.licence_tool.proofs.reading.read_log_file.Goals as goal

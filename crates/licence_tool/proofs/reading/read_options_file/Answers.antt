@@ -1,7 +1,7 @@
 use Rattle.std.proofs.Common.{ap}
 use Rattle.std.proofs.lemmas.Result.{err_from_is_err_and}
 use Rattle.options_text.specs.Options.{options_of}
-use Rattle.licence_tool.specs.Outcome.{value_or_status, options_heard, options_status, position_of_set}
+use Rattle.licence_tool.specs.Outcome.{options_heard, options_status, position_of_set, value_or_status}
 use Rattle.licence_tool.proofs.Hearing.{judged, refusal_wider, unheard}
 use Rattle.licence_tool.proofs.reading.read_options_file.Goals as goal
 

@@ -1,6 +1,6 @@
 use Rattle.std.proofs.Common.{◌≡◌, ◌++◌}
 use Rattle.options_text.specs.Canonical.{text_from}
-use Rattle.options_text.specs.Merging.{IsRising, count, file_left, entries_in_order}
+use Rattle.options_text.specs.Merging.{IsRising, count, entries_in_order, file_left}
 use Rattle.options_text.proofs.writing.write_left.Given as goal
 
 -- the text so far and that of what is left are the whole text
