@@ -9,7 +9,7 @@ use Rattle.std.specs.List.{list_all, AllByRecursion}
 use Rattle.std.specs.Str.{all_ascii_digits}
 use Rattle.lic_text.specs.Lines.{lines_from, words_of}
 use Rattle.lic_text.specs.Physical.{is_empty, physical_lines}
-use Rattle.lic_text.proofs.Fronts.{none_left}
+use Rattle.lic_text.proofs.Prefixes.{none_left}
 use Rattle.lic_text.proofs.Parts.{no_lines}
 use Rattle.lic_types.specs.Name.{IsName, is_name_byte}
 use Rattle.options_machine.specs.declared.reply.Charge.{Charge}

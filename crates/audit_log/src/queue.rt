@@ -136,7 +136,7 @@ impl LogTake {
     pub fn finish<R: Wait>(&mut self, rt: &R, push: LogPush)
         requires queue { push.queue ≡ self.old.queue }
         ensures all { self.new.taken ≡ push.pushed }
-        ensures front { (rest : List Entry) × (push.pushed ≡ self.old.taken ++ rest) }
+        ensures prefix { (rest : List Entry) × (push.pushed ≡ self.old.taken ++ rest) }
         ensures same { self.new.queue ≡ self.old.queue }
     {
         let LogPush {

@@ -48,7 +48,7 @@ module _ {S : Type 0} {held : S → Option (List ℕ)} {faults : S → ℕ} wher
     room = k.room ∙ j.room;
   }
 
-  -- what failed at a front of the text failed at the text
+  -- what failed at a prefix of the text failed at the text
   pub cut_short : {old new : S} {before after : Vec ℕ Global} {whole text : List ℕ} {e : WriteFailed} (more : List ℕ) (fault : WriteFailed) → Gathers held faults old new before after whole (Err e) → whole ++ more ≡ text
       → Gathers held faults old new before after text (Err fault)
   cut_short {old = old} {whole = whole} more fault k is = record {

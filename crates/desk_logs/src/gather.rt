@@ -39,7 +39,7 @@ fn append(gathered: &mut Vec<u8>, text: &[u8])
     }
 }
 
-/// Puts a text behind what was gathered, which is written before that if there is too little room. So a front of both
+/// Puts a text behind what was gathered, which is written before that if there is too little room. So a prefix of both
 /// together is written, and the rest is gathered.
 pub(crate) fn gather<O: Sink>(
     out: &mut O,

@@ -114,7 +114,7 @@ fn put_tallies<O: Sink>(
 ///
 /// It takes no memory: the lines are gathered in the buffer, which is empty at the start and has room for 8,192 bytes
 /// or more, so that one write takes many of them. The bytes of the buffer are left open behind it. `WriteFailed` comes
-/// exactly where a write fails, and then a front of the whole text was written.
+/// exactly where a write fails, and then a prefix of the whole text was written.
 pub fn write_logs<O: Sink>(
     out: &mut O,
     logs: &[DeskLog],

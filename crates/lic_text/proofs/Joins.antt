@@ -4,7 +4,7 @@ use Rattle.std.proofs.lemmas.List.{append-nil}
 use Rattle.std.specs.List.{slice_split, onto_first}
 use Rattle.lic_text.specs.Physical.{is_blank, is_empty, is_continued, without_last}
 use Rattle.lic_text.specs.Lines.{words_of}
-use Rattle.lic_text.specs.Front.{joined_text}
+use Rattle.lic_text.specs.Prefix.{joined_text}
 use Rattle.lic_text.proofs.Cuts.{cut}
 
 onto_front : (p : ℕ → Bool) (x : ℕ) (xs : List ℕ) (others : List (List ℕ)) → onto_first x (slice_split p xs ++ others) ≡ onto_first x (slice_split p xs) ++ others

@@ -3,7 +3,7 @@ use Rattle.lic_text.specs.Physical.{is_comment, is_continued, without_last, phys
 use Rattle.lic_text.specs.Lines.{Logical, new_line, with_text, with_line, ended_lines, still_open, logical_lines, words_of, unless_fault, line_or_fault, tells, up_to_fault, lines_from, lines_of, Worded, number_at, RisesAbove}
 use Rattle.lic_text.specs.declared.fault.TextFault.{TextFault}
 use Rattle.lic_text.specs.declared.fault.TextFault.TheVariants.{LineTooLong, OpenContinuation}
-use Rattle.lic_text.proofs.Fronts.{line_of}
+use Rattle.lic_text.proofs.Prefixes.{line_of}
 use Rattle.lic_text.proofs.WordsOf.{of_either}
 
 -- the same of logical lines

@@ -1,9 +1,9 @@
 use Rattle.std.proofs.Common.{◌≡◌, ℕ, ◌+◌, Bool, true, false, not, List, [], ◌∷◌, length, Option, None, Some, Result, Ok, Err, refl, sym, ap, subst, ◌∙◌, length-append, arith}
 use Rattle.lic_text.specs.Physical.{is_empty, is_comment, is_continued, without_last, physical_lines}
 use Rattle.lic_text.specs.Lines.{fault_of, words_of, lines_from, Worded}
-use Rattle.lic_text.specs.Front.{joined_text, has_no_end, line_count, lines_behind}
+use Rattle.lic_text.specs.Prefix.{joined_text, has_no_end, line_count, lines_behind}
 use Rattle.lic_text.specs.declared.fault.TextFault.{TextFault}
-use Rattle.lic_text.proofs.Fronts.{past_comment, at_fault, at_words, past_blanks, none_left}
+use Rattle.lic_text.proofs.Prefixes.{past_comment, at_fault, at_words, past_blanks, none_left}
 use Rattle.lic_text.proofs.Parts.{no_lines}
 
 -- the first physical line is continued by the others

@@ -1,7 +1,7 @@
 use Rattle.std.specs.Prelude.{ℕ, List, ◌++◌}
 use Rattle.lic_text.specs.Physical.{physical_lines}
 use Rattle.lic_text.specs.Lines.{Worded, words_of}
-use Rattle.lic_text.specs.Front.{joined_text}
+use Rattle.lic_text.specs.Prefix.{joined_text}
 use Rattle.lic_text.specs.declared.words.Words.{Words}
 use Rattle.lic_text.specs.declared.line.Line.{Line}
 

@@ -1,6 +1,6 @@
 ghost use Rattle.std.specs.Prelude.{◌≡◌, ◌+◌, ◌<◌, ◌≤◌, ◌^◌, length};
 ghost use Rattle.lic_text.specs.Physical.{physical_lines};
-ghost use Rattle.lic_text.specs.Front.{joined_text, has_no_end, line_count, lines_behind};
+ghost use Rattle.lic_text.specs.Prefix.{joined_text, has_no_end, line_count, lines_behind};
 
 use crate::physical::{cut_line, strip_last};
 

@@ -2,7 +2,7 @@ ghost use Rattle.std.specs.Prelude.{◌≡◌, ◌<◌, [], length};
 ghost use Rattle.lic_text.specs.Physical.{physical_lines};
 ghost use Rattle.lic_text.specs.Left.{words_left};
 ghost use Rattle.lic_text.specs.Lines.{words_of};
-ghost use Rattle.lic_text.specs.Front.{joined_text};
+ghost use Rattle.lic_text.specs.Prefix.{joined_text};
 
 use crate::physical::{after_blanks, cut_line, strip_last, word_end};
 

@@ -41,7 +41,7 @@ pub record IsHeardOf (horizon : Option Horizon) (Failed : Type 0) (told : CheckF
   pub are : AreOfCheck Failed told readings
   pub says : HearingSays (λ (v : Vec Advice Global). v.items) Failed (advice_heard horizon readings) result
 
--- what the writing of advice says of what the sink held before and holds now: all of it was written where there is some, and a front of it where the sink's count of faults rose
+-- what the writing of advice says of what the sink held before and holds now: all of it was written where there is some, and a prefix of it where the sink's count of faults rose
 abbrev pub AdviceSays : Type 0 → Bytes → Bytes → List Advice → LintStatus → Type 0
 AdviceSays Failed old new advice (Tool tool.Done) = (advice ≡ []) × (new ≡ old)
 AdviceSays Failed old new advice Advised = (advice ≢ []) × (new ≡ held_after old (text_of advice))

@@ -63,12 +63,12 @@ pub fn lint<F: Files, O: Sink, E: Sink>(
     ensures asked { Asks 1 (files_of (lint_in words.now)) (F.asked files.old) (F.asked files.new) (F.failed files.old) (F.failed files.new) (reading_in result) }
 
     // What came of the files of a lint. On Done they are accepted and there is no advice on them; on Advised out gained
-    // exactly the text of the advice on them, and on WriteFault, where its count of faults rose, a front of it; else
+    // exactly the text of the advice on them, and on WriteFault, where its count of faults rose, a prefix of it; else
     // nothing. Each other status is of the first file at fault, with its fault.
     ensures advice { ForLint (lint_in words.now) (F.contents files.old) (λ horizon told.
         IsLinted horizon (HasFailed (F.failed files.old) (F.failed files.new)) (HasRisen (O.faults out.old) (O.faults out.new)) told (O.held out.old) (O.held out.new) result) }
 
-    // Standard error gained exactly the line of the status, or a front of it at a fault of its own.
+    // Standard error gained exactly the line of the status, or a prefix of it at a fault of its own.
     ensures err_line { GainsLine (E.held err.old) (E.held err.new) (HasRisen (E.faults err.old) (E.faults err.new)) (lint_line result) }
 
     // What surely comes of the files comes, unless memory is wanted or a fault rose.

@@ -41,7 +41,7 @@ pub whole_written : (n : TrialNumbers) (kept : List Visit → Type 0) (trial : T
 whole_written n kept trial held out_old out_new piece e h =
     has_tried n kept trial held (λ text. out_new ≡ held_after out_old text) (subst (λ (text : List ℕ). out_new ≡ held_after out_old text) e h)
 
--- a front of it was
+-- a prefix of it was
 pub front_written : (n : TrialNumbers) (kept : List Visit → Type 0) (trial : Trial) → ((desk : DeskView) × IsDeskFor (no_options ∷ []) n.clients (trial_pool n.seats) desk × Tried desk (trial_setup n.seats) n.clients kept trial)
     → (out_old out_new : Bytes) (piece : List ℕ) → piece ≡ trial_text n trial → TakesPrefix out_old out_new piece → HasTried n kept (λ text. TakesPrefix out_old out_new text)
 front_written n kept trial held out_old out_new piece e h =

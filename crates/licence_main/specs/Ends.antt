@@ -19,7 +19,7 @@ use Rattle.licence_main.specs.Terms.{AreOfServe, TermsRead, are_all_told, terms_
 use Rattle.licence_main.specs.declared.status.DaemonStatus.{DaemonStatus}
 use Rattle.licence_main.specs.declared.status.DaemonStatus.TheVariants.{Tool, SiteFault, DoorFault}
 
--- the text of an office's end was written whole and this is the status, or a front of it was, where the sink's count of faults rose
+-- the text of an office's end was written whole and this is the status, or a prefix of it was, where the sink's count of faults rose
 abbrev pub IsWritten : DaemonStatus → OfficeEnd → Bytes → Bytes → Type 0 → DaemonStatus → Type 0
 IsWritten whole end old new OutFailed status =
     ((status ≡ whole) × (new ≡ held_after old (logs_text end.logs.items end.tallies.items)))
@@ -43,7 +43,7 @@ module _ (parties : ℕ) (kept : List (List Visit) → Type 0) (IsAtPath : Type 
   abbrev pub Serves : TermsRead → (List ℕ → Type 0) → Type 0
   Serves terms IsText = HasRun terms parties kept site_old.rings site_new.rings IsAtPath IsText
 
-  -- How a `serve` ends whose files are accepted. Done and DoorFault come with the whole text of its histories: Done where the bell was heard and no door was broken, DoorFault where one was. WriteFault comes with a front of that text, where the sink's count of faults rose; SiteFault where the site's did, and then no post had a session; and with it and with want of memory nothing was written.
+  -- How a `serve` ends whose files are accepted. Done and DoorFault come with the whole text of its histories: Done where the bell was heard and no door was broken, DoorFault where one was. WriteFault comes with a prefix of that text, where the sink's count of faults rose; SiteFault where the site's did, and then no post had a session; and with it and with want of memory nothing was written.
   abbrev pub ServedSays : TermsRead → DaemonStatus → Type 0
   ServedSays terms (Tool tool.Done) = Serves terms (λ text. out_new ≡ held_after out_old text) × HasRisen site_old.tolls site_new.tolls × (site_new.broken ≡ site_old.broken)
   ServedSays terms DoorFault = Serves terms (λ text. out_new ≡ held_after out_old text) × HasRisen site_old.broken site_new.broken

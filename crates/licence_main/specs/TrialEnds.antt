@@ -38,7 +38,7 @@ pub record HasTried (n : TrialNumbers) (kept : List Visit → Type 0) (IsText : 
   pub text : IsText (trial_text n trial)
 
 module _ (n : TrialNumbers) (kept : List Visit → Type 0) (Unheld : Type 0) (faults_old faults_new : ℕ) (out_old out_new : Bytes) (OutFailed : Type 0) where
-  -- How a `trial-threads` ends. Done comes with the whole text of its history, WriteFault with a front of it, where the sink's count of faults rose; SiteFault where the site's did, and then no session was held; and with it and with want of memory nothing was written.
+  -- How a `trial-threads` ends. Done comes with the whole text of its history, WriteFault with a prefix of it, where the sink's count of faults rose; SiteFault where the site's did, and then no session was held; and with it and with want of memory nothing was written.
   abbrev pub TrialSays : DaemonStatus → Type 0
   TrialSays (Tool tool.Done) = HasTried n kept (λ text. out_new ≡ held_after out_old text)
   TrialSays (Tool tool.WriteFault) = HasTried n kept (λ text. TakesPrefix out_old out_new text) × OutFailed

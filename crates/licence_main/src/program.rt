@@ -161,7 +161,7 @@ pub fn licenced<R: Threads + Wait + Sync, F: Files, O: Sink, E: Sink, S: Site>(
     // What came of the files. On Done, DoorFault and WriteFault they were accepted, and there is one list of sessions
     // for each party, whose talks and moments the site keeps, and one history for each pool, a run of the rules that
     // the files give it, which has the entries of these sessions and no others; and out gained the text of these
-    // histories, or on WriteFault a front of it.
+    // histories, or on WriteFault a prefix of it.
     ensures daemon { ForServe (serve_in words.now) (λ names. IsServed names.sessions (λ visits. Follows S.keeps site.old site.new (kept_from (S.made site.old) visits))
         (IfSome (S.path site.old) (λ p. names.socket ≡ p))
         (record { faults = S.faults site.old; tolls = S.tolls site.old; rings = S.rings site.old; broken = S.broken site.old })
@@ -172,7 +172,7 @@ pub fn licenced<R: Threads + Wait + Sync, F: Files, O: Sink, E: Sink, S: Site>(
     // What came of a trial, which asks for no file. On Done and WriteFault there is one session for each client, and
     // one history of the trial's pool, a run of its rules, which has the entries of these sessions and no others; and
     // out gained the text of its numbers, of the grants in that history and of as many uses of the cards, or on
-    // WriteFault a front of it.
+    // WriteFault a prefix of it.
     ensures trial { ForTrial (trial_in words.now) (λ n. TrialSays n (λ sessions. Follows S.keeps site.old site.new (kept_of (S.made site.old) sessions))
         ((posts : ℕ) × Follows S.keeps site.old site.new (kept_from (S.made site.old) (no_sessions posts)))
         (S.faults site.old) (S.faults site.new) (O.held out.old) (O.held out.new) (HasRisen (O.faults out.old) (O.faults out.new)) result) }
@@ -180,7 +180,7 @@ pub fn licenced<R: Threads + Wait + Sync, F: Files, O: Sink, E: Sink, S: Site>(
     ensures trial_complete { ForTrial (trial_in words.now) (λ n. IsTrialComplete (HasRisen (O.faults out.old) (O.faults out.new)) (S.faults site.old) (S.faults site.new) result) }
     ensures trial_line { ForTrial (trial_in words.now) (λ n. GainsLine (E.held err.old) (E.held err.new) (HasRisen (E.faults err.old) (E.faults err.new)) (serve_line result)) }
 
-    // Standard error gained exactly the line of the status, which is none on Done, or a front of it at a fault of its
+    // Standard error gained exactly the line of the status, which is none on Done, or a prefix of it at a fault of its
     // own.
     ensures err_line { ForServe (serve_in words.now) (λ names. GainsLine (E.held err.old) (E.held err.new) (HasRisen (E.faults err.old) (E.faults err.new)) (serve_line result)) }
 

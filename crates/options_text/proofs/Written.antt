@@ -2,11 +2,11 @@ use Rattle.std.proofs.Common.{◌≡◌, ◌==◌, ℕ, zero, suc, ◌+◌, ◌-
 use Rattle.std.proofs.lemmas.Bool.{and_parts, leb-true, le-ltb, ne_eqb}
 use Rattle.std.proofs.lemmas.List.Splits.{slice_split-cons_no}
 use Rattle.std.specs.List.{list_all, onto_first, slice_split, AllByRecursion}
-use Rattle.lic_text.specs.Front.{has_no_end, joined_text, line_count, lines_behind}
+use Rattle.lic_text.specs.Prefix.{has_no_end, joined_text, line_count, lines_behind}
 use Rattle.lic_text.specs.Physical.{is_comment, is_continued, is_empty, physical_lines, without_empty_end, without_return}
 use Rattle.lic_text.specs.Lines.{Worded, fault_of, lines_from, words_of}
 use Rattle.lic_text.specs.declared.fault.TextFault.{TextFault}
-use Rattle.lic_text.proofs.Fronts.{at_words, none_left, past_blanks}
+use Rattle.lic_text.proofs.Prefixes.{at_words, none_left, past_blanks}
 use Rattle.lic_text.proofs.Parts.{no_lines}
 use Rattle.options_text.specs.Canonical.{entry_text, line_text, text_from}
 use Rattle.options_text.specs.Entries.{line_of}

@@ -90,7 +90,7 @@ impl<R: rt::Files + Drop> Files for RealFiles<R> {
 /// just that behind what it held.
 pub fn write_all<W: Write>(writer: &mut W, piece: &[u8]) -> Result<(), WriteFailed>
     ensures whole { OnOk result (Appends (W.contents writer.old) (W.contents writer.new) piece.now) }
-    ensures front { OnErr result (AppendsPrefix (W.contents writer.old) (W.contents writer.new) piece.now) }
+    ensures prefix { OnErr result (AppendsPrefix (W.contents writer.old) (W.contents writer.new) piece.now) }
 {
     let mut rest = piece;
     while !rest.is_empty() {
@@ -130,7 +130,7 @@ impl<W: Write + Drop> Sink for RealSink<W> {
 
         // Where the writer below tells what it holds, it gained the whole piece, or a prefix of it.
         ensures whole { OnOk result (Appends (W.contents self.old.writer) (W.contents self.new.writer) piece.now) }
-        ensures front { OnErr result (AppendsPrefix (W.contents self.old.writer) (W.contents self.new.writer) piece.now) }
+        ensures prefix { OnErr result (AppendsPrefix (W.contents self.old.writer) (W.contents self.new.writer) piece.now) }
     {
         let written = write_all(&mut self.writer, piece);
         if written.is_err() {

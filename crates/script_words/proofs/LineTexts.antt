@@ -3,10 +3,10 @@ use Rattle.std.proofs.Common.{◌≡◌, ◌==◌, ℕ, suc, ◌+◌, ◌-◌, �
 use Rattle.std.proofs.lemmas.Bool.{and_parts, leb-true, le-ltb, lt-ltb, ltb-true, ne_eqb}
 use Rattle.std.proofs.lemmas.List.Splits.{slice_split-cons_no}
 use Rattle.std.specs.List.{list_all, onto_first, slice_split}
-use Rattle.lic_text.specs.Front.{has_no_end, joined_text, line_count, lines_behind}
+use Rattle.lic_text.specs.Prefix.{has_no_end, joined_text, line_count, lines_behind}
 use Rattle.lic_text.specs.Physical.{ends_in, is_comment, is_continued, is_empty, physical_lines, without_empty_end, without_return}
 use Rattle.lic_text.specs.Lines.{fault_of, lines_from, words_of}
-use Rattle.lic_text.proofs.Fronts.{at_words}
+use Rattle.lic_text.proofs.Prefixes.{at_words}
 
 -- How texts end.
 

@@ -142,7 +142,7 @@ pub fn play<O: Sink>(
     requires some { 0 < length options.now }
     requires few { length options.now ≤ 4 }
     ensures ok { OnOk result (O.held out.new ≡ held_after (O.held out.old) (output_of licence.now.pools options.now lines.now)) }
-    ensures front { result ≡ Err PlayFault.WriteFailed → TakesPrefix (O.held out.old) (O.held out.new) (output_of licence.now.pools options.now lines.now) }
+    ensures prefix { result ≡ Err PlayFault.WriteFailed → TakesPrefix (O.held out.old) (O.held out.new) (output_of licence.now.pools options.now lines.now) }
     ensures failed { result ≡ Err PlayFault.WriteFailed → HasRisen (O.faults out.old) (O.faults out.new) }
     ensures memory { result ≡ Err PlayFault.NoMemory → O.held out.new ≡ O.held out.old }
     ensures steady { result ≢ Err PlayFault.WriteFailed → O.faults out.new ≡ O.faults out.old }

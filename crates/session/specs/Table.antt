@@ -87,7 +87,7 @@ abbrev pub found_by_route : List Pool → List ℕ → ℕ → Option Version �
 found_by_route pools name at (Some version) = route pools name version.key at
 found_by_route pools name at None = found_or (first_named pools name) Unknown
 
--- the line is written, with this after it, and the session goes on to `next`; or the write fails after a front of the line, and the session is at its end
+-- the line is written, with this after it, and the session goes on to `next`; or the write fails after a prefix of the line, and the session is at its end
 abbrev pub WritesAnd : Told → List Act → Option SessionEnd → List Act → Option SessionEnd → Type 0
 WritesAnd said more next new out =
     ((new ≡ Tell (Wrote (line_of said)) ∷ more) × (out ≡ next))

@@ -10,10 +10,10 @@ use Rattle.std.specs.List.{list_all, onto_first, slice_split, AllByRecursion}
 use Rattle.std.specs.Str.{all_ascii_digits}
 use Rattle.lic_text.specs.Number.{number_of, value_after}
 use Rattle.lic_text.specs.Physical.{is_comment, is_continued, is_empty, physical_lines, without_empty_end, without_return}
-use Rattle.lic_text.specs.Front.{has_no_end, joined_text, line_count, lines_behind}
+use Rattle.lic_text.specs.Prefix.{has_no_end, joined_text, line_count, lines_behind}
 use Rattle.lic_text.specs.Lines.{Worded, fault_of, lines_from, lines_of, words_of}
 use Rattle.lic_text.specs.declared.fault.TextFault.{TextFault}
-use Rattle.lic_text.proofs.Fronts.{at_words, none_left}
+use Rattle.lic_text.proofs.Prefixes.{at_words, none_left}
 use Rattle.feature_lines.specs.Licence.{licence_in, licence_of}
 use Rattle.feature_lines.specs.Line.{count_of, line_with_terms, is_word, said_or_fault, or_fault, said_of}
 use Rattle.feature_lines.specs.declared.fault.LicenceFault.{LicenceFault}

@@ -1,6 +1,6 @@
 use Rattle.std.proofs.Common.{◌≡◌, ◌+◌, ◌≤◌, length}
 use Rattle.lic_text.specs.Physical.{physical_lines}
-use Rattle.lic_text.specs.Front.{joined_text, has_no_end, line_count, lines_behind}
+use Rattle.lic_text.specs.Prefix.{joined_text, has_no_end, line_count, lines_behind}
 use Rattle.lic_text.proofs.extent.measure.Given as goal
 
 -- what was read and what is left make up the whole

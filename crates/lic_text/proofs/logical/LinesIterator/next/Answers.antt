@@ -1,7 +1,7 @@
 use Rattle.std.proofs.Common.{◌≡◌, ◌+◌, [], sym, ap, ◌∙◌, arith}
 use Rattle.lic_text.specs.Lines.{lines_from}
 use Rattle.lic_text.specs.LinesLeft.{lines_left}
-use Rattle.lic_text.proofs.Fronts.{none_left}
+use Rattle.lic_text.proofs.Prefixes.{none_left}
 use Rattle.lic_text.proofs.Parts.{no_bytes}
 use Rattle.lic_text.proofs.logical.LinesIterator.next.Goals as goal
 

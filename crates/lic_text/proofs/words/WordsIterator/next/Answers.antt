@@ -2,7 +2,7 @@ use Rattle.std.proofs.Common.{◌≡◌, ◌++◌, [], List, ℕ, sym, ap, ◌�
 use Rattle.std.proofs.lemmas.List.{append-nil}
 use Rattle.lic_text.specs.Physical.{physical_lines}
 use Rattle.lic_text.specs.Lines.{words_of}
-use Rattle.lic_text.specs.Front.{joined_text}
+use Rattle.lic_text.specs.Prefix.{joined_text}
 use Rattle.lic_text.specs.Left.{words_left}
 use Rattle.lic_text.proofs.Joins.{last_word}
 use Rattle.lic_text.proofs.Parts.{no_bytes}

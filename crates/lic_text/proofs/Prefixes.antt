@@ -2,7 +2,7 @@ use Rattle.std.proofs.Common.{◌≡◌, ℕ, ◌+◌, Bool, true, false, not, L
 use Rattle.std.proofs.lemmas.List.{append-nil}
 use Rattle.lic_text.specs.Physical.{is_empty, is_comment, is_continued, without_last}
 use Rattle.lic_text.specs.Lines.{Logical, logical_lines, fault_of, line_or_fault, tells, up_to_fault, words_of, lines_from}
-use Rattle.lic_text.specs.Front.{joined_text, has_no_end, line_count, lines_behind}
+use Rattle.lic_text.specs.Prefix.{joined_text, has_no_end, line_count, lines_behind}
 use Rattle.lic_text.specs.declared.fault.TextFault.{TextFault}
 
 -- a logical line of these parts
@@ -36,7 +36,7 @@ pub open_line : (texts : List (List ℕ)) (first : ℕ) (before : List ℕ) (num
 open_line [] first before number = ap (λ (text : List ℕ). line_of first text true ∷ []) (sym (append-nil before))
 open_line (text ∷ texts) first before number = open_step text texts first before number (is_continued text) refl (λ more next. open_line texts first more next)
 
--- the logical line at the front of physical lines, the first of them no comment
+-- the logical line at the beginning of physical lines, the first of them no comment
 abbrev front_line : ℕ → List (List ℕ) → Logical
 front_line number texts = line_of number (joined_text texts) (has_no_end texts)
 

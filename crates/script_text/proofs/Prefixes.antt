@@ -5,21 +5,21 @@ use Rattle.lic_text.specs.declared.fault.TextFault.{TextFault}
 use Rattle.options_machine.proofs.Counts.{and_left, and_right}
 use Rattle.script_words.specs.declared.fault.ScriptFault.{ScriptFault}
 use Rattle.script_text.specs.Fits.{is_fit}
-use Rattle.script_words.proofs.Fronts.{front_more, with_front}
+use Rattle.script_words.proofs.Prefixes.{prefix_more, with_prefix}
 use Rattle.script_words.specs.Firsts.{all_or_first_fault, onto}
 use Rattle.script_text.specs.Script.{line_of}
 use Rattle.script_text.specs.declared.line.ScriptLine.{ScriptLine}
 
 -- the lines so far, and those that are left
 abbrev pub as_far_as : List ScriptLine → List (Result Worded TextFault) → Result (List ScriptLine) ScriptFault
-as_far_as front left = with_front front (all_or_first_fault (map line_of left))
+as_far_as front left = with_prefix front (all_or_first_fault (map line_of left))
 
 -- one line more was read
 pub one_more : (front : List ScriptLine) (x : ScriptLine) (line : Result Worded TextFault) (lines all : List (Result Worded TextFault)) (whole : Result (List ScriptLine) ScriptFault)
     → Ok x ≡ line_of line → all ≡ line ∷ lines → as_far_as front all ≡ whole → as_far_as (front ++ x ∷ []) lines ≡ whole
 one_more front x line lines all whole is next before =
-    front_more front x (all_or_first_fault (map line_of lines))
-    ∙ (ap (λ (found : Result ScriptLine ScriptFault). with_front front (onto found (all_or_first_fault (map line_of lines)))) is
+    prefix_more front x (all_or_first_fault (map line_of lines))
+    ∙ (ap (λ (found : Result ScriptLine ScriptFault). with_prefix front (onto found (all_or_first_fault (map line_of lines)))) is
     ∙ (ap (λ (ls : List (Result Worded TextFault)). as_far_as front ls) (sym next) ∙ before))
 
 -- a line at fault was met
@@ -28,7 +28,7 @@ pub one_fault : (front : List ScriptLine) (fault : ScriptFault) (line : Result W
 one_fault front fault line lines all whole is next before =
     sym before
     ∙ (ap (λ (ls : List (Result Worded TextFault)). as_far_as front ls) next
-    ∙ ap (λ (found : Result ScriptLine ScriptFault). with_front front (onto found (all_or_first_fault (map line_of lines)))) (sym is))
+    ∙ ap (λ (found : Result ScriptLine ScriptFault). with_prefix front (onto found (all_or_first_fault (map line_of lines)))) (sym is))
 
 -- one fit line more
 pub fit_more : (lines : List ScriptLine) (line : ScriptLine) → list_all is_fit lines ≡ true → is_fit line ≡ true → list_all is_fit (lines ++ line ∷ []) ≡ true

@@ -1,7 +1,7 @@
 use Rattle.std.specs.Prelude.{ℕ, ◌+◌, Bool, true, false, if◌then◌else◌, List, [], ◌∷◌, ◌++◌}
 use Rattle.lic_text.specs.Physical.{is_continued, without_last}
 
--- The logical line at the front of physical lines, none of them read as a comment.
+-- The logical line at the beginning of physical lines, none of them read as a comment.
 
 -- its text
 abbrev pub joined_text : List (List ℕ) → List ℕ
