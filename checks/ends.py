@@ -6,7 +6,8 @@ A case begins with a line `case: NAME`, and then has lines `FIELD: VALUE`:
     words     the words behind the program's name
     NAME      what the file NAME holds; in place of text `absent`, `folder`, `fifo TEXT`, `bytes N`, which is N times `#`, or
               `each N TEXT`, which is TEXT N times, with the number from 0 in place of {}
-    out, err  where standard output and standard error go: `closed`, `full` (/dev/full) or `broken` (a pipe that nobody reads)
+    out, err  where standard output and standard error go: `closed`, `full` (/dev/full), `broken` (a pipe that nobody
+              reads), or `room N`, a file that takes N bytes
     status, stdout, stderr
               what is wanted. A stdout of `any` isn't compared.
 
@@ -16,6 +17,8 @@ Values have Python's escapes, as \\n, \\t, \\x00 and \\xff. What a case leaves o
 import ast
 import os
 import re
+import resource
+import signal
 import subprocess
 import sys
 import tempfile
@@ -71,39 +74,52 @@ def lay(name, value):
             file.write(held)
 
 
-def broken_pipe():
-    reads, writes = os.pipe()
-    os.close(reads)
-    return writes
+def target(where):
+    """What a stream is given to."""
+    if where == "full":
+        return open("/dev/full", "wb")
+    if where == "broken":
+        reads, writes = os.pipe()
+        os.close(reads)
+        return open(writes, "wb")
+    if where.startswith("room "):
+        return tempfile.TemporaryFile()
+    return subprocess.PIPE
+
+
+def limit(given):
+    """Closes, in the program's own process, what is to be closed, and limits what its files take."""
+    for number, where in enumerate(given, 1):
+        kind, _, room = where.partition(" ")
+        if kind == "closed":
+            os.close(number)
+        elif kind == "room":
+            signal.signal(signal.SIGXFSZ, signal.SIG_IGN)
+            resource.setrlimit(resource.RLIMIT_FSIZE, (int(room), int(room)))
+
+
+def written(stream, piped):
+    """What was written to a stream, where it was kept."""
+    if stream == subprocess.PIPE:
+        return piped
+    with stream:
+        return stream.seek(0) or stream.read() if stream.readable() else b""
 
 
 def run(program, fields):
     """The status of a run, and what it wrote to standard output and standard error where they were kept."""
-    given = {"out": fields.get("out"), "err": fields.get("err")}
-    kept = {"out": subprocess.PIPE, "err": subprocess.PIPE}
-    opened = []
-    for stream, where in given.items():
-        if where in ("full", "broken"):
-            kept[stream] = os.open("/dev/full", os.O_WRONLY) if where == "full" else broken_pipe()
-            opened.append(kept[stream])
-
-    def close():
-        for number, stream in ((1, "out"), (2, "err")):
-            if given[stream] == "closed":
-                os.close(number)
-
+    given = [fields.get("out", ""), fields.get("err", "")]
+    streams = [target(where) for where in given]
     words = [text(word) for word in fields["words"].split(" ") if word]
     ran = subprocess.run(
         [program, *words],
         stdin=subprocess.DEVNULL,
-        stdout=kept["out"],
-        stderr=kept["err"],
-        preexec_fn=close,
+        stdout=streams[0],
+        stderr=streams[1],
+        preexec_fn=lambda: limit(given),
         timeout=SECONDS,
     )
-    for number in opened:
-        os.close(number)
-    return ran.returncode, ran.stdout or b"", ran.stderr or b""
+    return ran.returncode, written(streams[0], ran.stdout), written(streams[1], ran.stderr)
 
 
 def faults(program, fields):

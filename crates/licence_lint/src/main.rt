@@ -22,6 +22,3 @@ fn main(rt: HostRuntime) -> ExitCode {
     let status = lint(rt.alloc(), &words, &mut files, &mut out, &mut err);
     ExitCode::from(status.code())
 }
-
-#[cfg(test)]
-mod tests;

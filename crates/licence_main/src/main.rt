@@ -1,16 +1,7 @@
 //! The floating licence daemon and its offline tools.
 #![tactic(auto)]
 
-mod daemon;
-mod program;
-mod reading;
-mod serve_words;
-mod status;
-mod terms;
-mod trial;
-mod trial_words;
-
-use crate::program::licenced;
+use licence_daemon::licenced;
 use licence_tool::{Status, words_of, write_line};
 use outside::{RealFiles, RealSink};
 use std::env;
@@ -38,6 +29,3 @@ fn main(rt: HostRuntime) -> ExitCode {
     site.close();
     ExitCode::from(status.code())
 }
-
-#[cfg(test)]
-mod tests;

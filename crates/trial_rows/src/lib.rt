@@ -1,9 +1,0 @@
-//! Whole trials over a site in memory: rows, as tests, and the gates that they need.
-#![tactic(auto)]
-
-mod gates;
-
-pub use gates::{CountGate, HoldGate, Meeting};
-
-#[cfg(test)]
-mod tests;
