@@ -1,7 +1,8 @@
+//! What is written of the logs and tallies of desks.
 ghost use Rattle.std.specs.Prelude.{◌≤◌, length};
 
-use crate::write_logs;
 use desk_book::DeskLog;
+use desk_logs::write_logs;
 use feature_desk::DeskTally;
 use lic_types::{Client, Name};
 use options_machine::{Entry, Kind, Reply, Request};

@@ -1,4 +1,4 @@
-use crate::UnixSite;
+//! The real socket, clock and bell.
 use daemon_outside::{Came, Door, Site};
 use session_outside::{Bell, Clock, Got, Link};
 use std::io::{self, Read, Write};
@@ -6,6 +6,7 @@ use std::os::unix::net::{UnixListener, UnixStream};
 use std::test::Fail;
 use std::thread::for_each_mut;
 use std::{env, fs, process};
+use unix_site::UnixSite;
 
 /// A path of this process alone, where nothing is.
 fn path(rt: &HostRuntime, name: &str) -> io::Result<String> {

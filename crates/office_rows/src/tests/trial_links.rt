@@ -1,6 +1,7 @@
-use crate::TrialLink;
+//! A link that plays a client of a trial.
 use session_outside::{Got, Link};
 use std::test::Fail;
+use trial_link::TrialLink;
 
 /// Each row is a line of the client and the reply to it.
 #[test]

@@ -1,4 +1,5 @@
-use crate::{Came, Door, Knock, MemPost, MemSite, Site};
+//! A site in memory, with its doors and its bells.
+use daemon_outside::{Came, Door, Knock, MemPost, MemSite, Site};
 use session_outside::{Bell, Clock, Feed, Got, Link, Mark, MemLink, NoGate, Talk};
 use std::alloc::{AllocError, Global};
 use std::test::Fail;

@@ -1,5 +1,6 @@
-use crate::reply_words;
+//! The words of each reply.
 use options_machine::{Charge, Reply};
+use reply_words::reply_words;
 use std::process::Abort;
 
 fn counts(own: bool, queued: bool) -> Reply {

@@ -1,6 +1,7 @@
-use crate::OfficeView;
+//! To which pool of an office a checkout goes.
 use feature_lines::{Found, Pool};
 use lic_types::{Day, Expiry, Name, Version};
+use office_view::OfficeView;
 use std::test::Fail;
 
 const FIRST: Version = Version { key: 1_000_000_000 };

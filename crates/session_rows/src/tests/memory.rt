@@ -1,4 +1,5 @@
-use crate::{
+//! A link, a clock and a bell in memory, and the bell and the gate of who needs none.
+use session_outside::{
     Bell, Clock, Feed, Gate, GatePlace, Got, Link, LinkFailed, Mark, MemBell, MemClock, MemLink,
     NoGate, StillBell, Talk,
 };
