@@ -2,7 +2,7 @@
 import os
 import sys
 
-PROGRAM = sys.argv[1] if len(sys.argv) > 1 else "crates/board_bench/out/board_bench"
+PROGRAM = sys.argv[1] if len(sys.argv) > 1 else "crates/desk_bench/out/desk_bench"
 FEW, TIMES = 1_000, 5
 MANY = {"publish": 501_000, "glance": 5_001_000}
 
@@ -11,7 +11,7 @@ def seconds(call, readers, rounds):
     """The processor time of one run, which what else the machine does disturbs little."""
     child = os.posix_spawn(
         PROGRAM,
-        [PROGRAM, call, str(readers), str(rounds)],
+        [PROGRAM, "board", call, str(readers), str(rounds)],
         os.environ,
         file_actions=[(os.POSIX_SPAWN_OPEN, 1, os.devnull, os.O_WRONLY, 0)],
     )

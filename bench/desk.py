@@ -5,7 +5,7 @@ import subprocess
 import sys
 import time
 
-DESK = "crates/desk_bench/out/desk_bench"
+DESK = ("crates/desk_bench/out/desk_bench", "desk")
 THREADS = (1, 4, 16, 256)
 PAIRS = 1_000_000
 SEATS = 300
@@ -16,7 +16,7 @@ def seconds(program, threads, parties):
     """Seconds of one run, which has to grant each seat that is asked for."""
     rounds = PAIRS // parties
     begun = time.perf_counter()
-    told = subprocess.run([program, str(threads), str(rounds), str(SEATS)], stdout=subprocess.PIPE, check=True)
+    told = subprocess.run([*program, str(threads), str(rounds), str(SEATS)], stdout=subprocess.PIPE, check=True)
     spent = time.perf_counter() - begun
     if int(told.stdout) != parties * rounds:
         sys.exit("a grant was lost")
@@ -24,9 +24,9 @@ def seconds(program, threads, parties):
 
 
 def main():
-    peer = sys.argv[1]
-    if not os.access(DESK, os.X_OK):
-        sys.exit(f"bench: {DESK} isn't built")
+    peer = (sys.argv[1],)
+    if not os.access(DESK[0], os.X_OK):
+        sys.exit(f"bench: {DESK[0]} isn't built")
     print("threads: million pairs a second, desk and map, ratio of the best and of the middle")
     for threads in THREADS:
         runs = {DESK: [], peer: []}

@@ -7,7 +7,7 @@ import time
 
 from timing import processor_seconds
 
-LOCK = "crates/lock_bench/out/lock_bench"
+LOCK = ("crates/desk_bench/out/desk_bench", "lock")
 THREADS = (1, 4, 16, 256)
 CALLS = 24_000_000
 RUNS = 5
@@ -17,7 +17,7 @@ BUSY = 4
 def run(program, threads, rounds):
     """Seconds and processor seconds of one run, which has to count each call."""
     worked, begun = processor_seconds(), time.perf_counter()
-    told = subprocess.run([program, str(threads), str(rounds)], stdout=subprocess.PIPE, check=True)
+    told = subprocess.run([*program, str(threads), str(rounds)], stdout=subprocess.PIPE, check=True)
     spent, worked = time.perf_counter() - begun, processor_seconds() - worked
     if int(told.stdout) != threads * rounds:
         sys.exit("a call was lost")
@@ -51,9 +51,9 @@ def tell(mutex):
 
 
 def main():
-    mutex, busy = sys.argv[1], "busy" in sys.argv[2:]
-    if not os.access(LOCK, os.X_OK):
-        sys.exit(f"bench: {LOCK} isn't built")
+    mutex, busy = (sys.argv[1],), "busy" in sys.argv[2:]
+    if not os.access(LOCK[0], os.X_OK):
+        sys.exit(f"bench: {LOCK[0]} isn't built")
     spin = [sys.executable, "-c", "while True: pass"]
     others = [subprocess.Popen(spin) for _ in range(BUSY if busy else 0)]
     try:

@@ -5,7 +5,7 @@ import subprocess
 import sys
 import time
 
-LOG = "crates/log_bench/out/log_bench"
+LOG = "crates/desk_bench/out/desk_bench"
 ENTRIES, ROUNDS, RUNS = 4096, 500, 7
 
 
@@ -14,7 +14,7 @@ def seconds(threads, rounds):
     best = None
     for _ in range(RUNS):
         begun = time.perf_counter()
-        told = subprocess.run([LOG, str(threads), str(rounds)], stdout=subprocess.PIPE, check=True)
+        told = subprocess.run([LOG, "log", str(threads), str(rounds)], stdout=subprocess.PIPE, check=True)
         spent = time.perf_counter() - begun
         if int(told.stdout) != rounds * ENTRIES:
             sys.exit("an entry was lost")

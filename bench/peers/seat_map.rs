@@ -1,4 +1,4 @@
-//! Checks seats out and in from several threads: what `desk_bench` does, in plain Rust, with a mutex round a map of who holds which seat and a list of the free ones.
+//! Checks seats out and in from several threads: what `desk_bench desk` does, in plain Rust, with a mutex round a map of who holds which seat and a list of the free ones.
 //!
 //! `seat_map THREADS ROUNDS SEATS` prints the number of the grants, so that a lost one shows.
 use std::collections::HashMap;

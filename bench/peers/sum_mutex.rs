@@ -1,4 +1,4 @@
-//! Asks a sum behind a `Mutex` from several threads: what `lock_bench` does, in plain Rust.
+//! Asks a sum behind a `Mutex` from several threads: what `desk_bench lock` does, in plain Rust.
 //!
 //! `sum_mutex THREADS ROUNDS` prints the number of the calls, so that a lost one shows.
 use std::env;

@@ -11,6 +11,3 @@ pub use bell::SharedBell;
 pub use door::{Came, Door, FAIL_LIMIT};
 pub use memory::{Knock, MemDoor, MemPost, MemSite, Retired};
 pub use site::{Post, Site, SiteFailed};
-
-#[cfg(test)]
-mod tests;

@@ -1,165 +1,44 @@
-//! Checks seats of a desk out and in from several threads, to measure what a pair of calls costs.
+//! Makes calls on a desk, or on the lock, the board or the log that a desk has, to measure what a call costs.
 //!
-//! `desk_bench THREADS ROUNDS SEATS` makes a desk of SEATS licences with a party for each of THREADS, from 1 to 256,
-//! but two at least, and each asks CHECKOUT and CHECKIN in turn, ROUNDS times each, on so many threads at once. It
+//! `desk_bench desk THREADS ROUNDS SEATS` makes a desk of SEATS licences with a party for each of THREADS, from 1 to
+//! 256, but two at least, and each asks CHECKOUT and CHECKIN in turn, ROUNDS times each, on so many threads at once. It
 //! closes the desk and prints the number of the grants, so that a lost one shows.
+//!
+//! `desk_bench lock THREADS ROUNDS` puts a sum behind a lock with THREADS passes, from 1 to 256, and asks it ROUNDS
+//! times with each, every pass in a thread of its own. It closes the lock and prints the number of the calls, so that a
+//! lost one shows.
+//!
+//! `desk_bench board publish N ROUNDS` makes a board with N readers, from 1 to 256, and publishes ROUNDS entries;
+//! `desk_bench board glance N ROUNDS` publishes one and reads it ROUNDS times with the last of the N passes. It prints
+//! the front that is read at the end, so that a lost one shows.
+//!
+//! `desk_bench log THREADS ROUNDS` makes a queue for each round and pushes 4,096 entries: with one thread they are taken
+//! out behind that, with two by another thread meanwhile. It prints the number of the entries that came out, so that a
+//! lost one shows.
 #![tactic(auto)]
 
-ghost use Rattle.std.specs.Prelude.{◌≡◌, ◌<◌, ◌≤◌, All, IfOk, length, vec_len};
-ghost use Rattle.options_machine.specs.Run.{IsBelow};
-ghost use Rattle.options_machine.specs.Step.{set_asked};
-ghost use Rattle.feature_desk.specs.Closings.{IsKeeperOf, Rests};
-ghost use Rattle.feature_desk.specs.Sitters.{IsOf};
+mod boards;
+mod desks;
+mod locks;
+mod logs;
 
-use anyhow::{Context, Result, ensure};
-use counter::Counter;
-use feature_desk::{Desk, DeskKeeper, DeskPass};
-use feature_lines::Pool;
-use kex_net::tree;
-use lic_types::{Client, Expiry, Name, Version};
-use options_machine::Kind;
-use options_text::read_options;
-use policy::DeskRules;
-use std::alloc::Global;
+use anyhow::{Context, Result, bail};
+use boards::front_of_board;
+use desks::grants_of_desk;
+use locks::calls_of_lock;
+use logs::entries_of_log;
 use std::env;
-use std::sync::Wait;
-use std::thread::{Threads, for_each_mut};
-
-/// The pool of so many licences.
-fn pool(count: u32) -> Result<Pool> {
-    Ok(Pool {
-        name: Name::read(b"edit")?,
-        version: Version { key: 1_000_000_000 },
-        version_text: Name::read(b"1.0")?,
-        vendor: Name::read(b"acme")?,
-        expiry: Expiry::Never,
-        count,
-        line: 1,
-    })
-}
-
-/// A client of no importance.
-fn client() -> Result<Client> {
-    Ok(Client {
-        user: Name::read(b"u")?,
-        host: Name::read(b"h")?,
-        display: Name::read(b"d")?,
-        project: Name::read(b"p")?,
-    })
-}
-
-/// The desk of so many licences without options, and the passes of so many parties.
-fn desk_of<R: Wait>(
-    rt: &R,
-    alloc: Global,
-    count: u32,
-    parties: u32,
-) -> Result<(Desk, Vec<DeskPass>, DeskKeeper)>
-    ensures own { IfOk result (λ made. (vec_len made.1 ≡ made.0.lock.id.parties) × All (λ p. IsOf p made.0) made.1.items) }
-    ensures keeper { IfOk result (λ made. IsKeeperOf made.2 made.0) }
-{
-    ensure!(2 <= parties && parties <= 256, "more than 256 threads");
-    ensure!(
-        1 <= count && count <= 65_535,
-        "not from 1 to 65,535 licences"
-    );
-    let options = read_options(alloc, b"")?;
-    let rules = DeskRules::of(alloc, &options, &pool(count)?)?;
-    let net = tree(alloc, parties, count)?;
-    ensure!(
-        net.width() == rules.count().min(net.parties()),
-        "a net of another width"
-    );
-    Ok(Desk::make(rt, alloc, rules, net)?)
-}
-
-/// Checks out and in, so often, and quits.
-fn pairs<R: Wait>(rt: &R, desk: &Desk, pass: &mut DeskPass, client: &Client, rounds: u32)
-    requires { IsOf pass.old desk.now }
-    ensures { IsOf pass.new desk.now × Rests pass.new }
-{
-    for _round in 0..rounds {
-        asks(rt, desk, pass, Kind::Checkout, client);
-        asks(rt, desk, pass, Kind::Checkin, client);
-    }
-    quit(rt, desk, pass, client);
-}
-
-/// One call of a party.
-fn asks<R: Wait>(rt: &R, desk: &Desk, pass: &mut DeskPass, kind: Kind, client: &Client)
-    requires of { IsOf pass.old desk.now }
-    requires fits { IsBelow (set_asked kind) (length pass.old.ticket.law.sets) }
-    ensures { IsOf pass.new desk.now }
-{
-    pass.ask(rt, desk, kind, client, 0);
-}
-
-/// Quits.
-fn quit<R: Wait>(rt: &R, desk: &Desk, pass: &mut DeskPass, client: &Client)
-    requires { IsOf pass.old desk.now }
-    ensures { IsOf pass.new desk.now × Rests pass.new }
-{
-    pass.ask(rt, desk, Kind::Quit, client, 0);
-}
-
-/// Each party asks, on so many threads at once.
-fn pairs_of_all<R: Threads + Wait + Sync>(
-    rt: &R,
-    desk: &Desk,
-    passes: &mut Vec<DeskPass>,
-    client: &Client,
-    rounds: u32,
-    threads: usize,
-)
-    requires some { 0 < threads }
-    requires own { All (λ p. IsOf p desk.now) passes.old.items }
-    ensures len { vec_len passes.new ≡ vec_len passes.old }
-    ensures own { All (λ p. IsOf p desk.now) passes.new.items }
-    ensures rest { All Rests passes.new.items }
-{
-    all_at_once(rt, desk, passes.as_mut_slice(), client, rounds, threads);
-}
-
-/// As `pairs_of_all`, over a slice.
-fn all_at_once<R: Threads + Wait + Sync>(
-    rt: &R,
-    desk: &Desk,
-    passes: &mut [DeskPass],
-    client: &Client,
-    rounds: u32,
-    threads: usize,
-)
-    requires some { 0 < threads }
-    requires own { All (λ p. IsOf p desk.now) passes.old }
-    ensures len { length passes.new ≡ length passes.old }
-    ensures own { All (λ p. IsOf p desk.now) passes.new }
-    ensures rest { All Rests passes.new }
-{
-    let asking = |_party: usize, pass: &mut DeskPass|
-        requires { IsOf pass.old desk.now }
-        ensures { IsOf pass.new desk.entry.now × Rests pass.new }
-    { pairs(rt, desk, pass, client, rounds) };
-    for_each_mut(rt, passes, threads, &asking);
-}
 
 fn main(rt: HostRuntime) -> Result<()> {
-    let mut words = env::args(&rt)?.skip(1);
-    let threads: u16 = words.next().context("no number of threads")?.parse()?;
-    ensure!(1 <= threads, "no thread");
-    let rounds: u32 = words.next().context("no number of rounds")?.parse()?;
-    let seats: u32 = words.next().context("no number of licences")?.parse()?;
-    let client = client()?;
-    let parties = u32::from(threads).max(2);
-    let (desk, mut passes, keeper) = desk_of(&rt, rt.alloc(), seats, parties)?;
-    pairs_of_all(
-        &rt,
-        &desk,
-        &mut passes,
-        &client,
-        rounds,
-        usize::from(threads),
-    );
-    let tally = desk.close(&rt, passes, keeper);
-    println!(rt; "{}", tally.grants)?;
+    let mut words = env::args(&rt)?;
+    let _ = words.next();
+    let told = match words.next().context("no part of a desk")?.as_str() {
+        "lock" => calls_of_lock(&rt, rt.alloc(), words)?,
+        "board" => front_of_board(&rt, rt.alloc(), words)?,
+        "log" => entries_of_log(&rt, rt.alloc(), words)?,
+        "desk" => grants_of_desk(&rt, rt.alloc(), words)?,
+        _ => bail!("neither lock, board, log nor desk"),
+    };
+    println!(rt; "{told}")?;
     Ok(())
 }

@@ -7,6 +7,3 @@ mod pools;
 
 pub use laws::ends_are_written;
 pub use pools::write_logs;
-
-#[cfg(test)]
-mod tests;

@@ -6,8 +6,12 @@ ghost use Rattle.office_rows.specs.Ready.{HasSets, IsReady};
 
 mod auditors;
 mod daemons;
+mod endings;
 mod glances;
 mod offices;
+mod sites;
+mod sockets;
+mod trial_links;
 
 use feature_desk::Desk;
 use feature_lines::read_licence;

@@ -83,6 +83,3 @@ impl<D> OfficeView<D> {
         find_pool(self.pools.as_slice(), name, version, moment)
     }
 }
-
-#[cfg(test)]
-mod tests;

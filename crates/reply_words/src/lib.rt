@@ -8,6 +8,3 @@ mod words;
 
 pub use room::{put, put_number};
 pub use words::{put_charge, put_reply, reply_words};
-
-#[cfg(test)]
-mod tests;

@@ -15,6 +15,3 @@ pub use gate::{Gate, GatePlace, NoGate};
 pub use link::{Got, Link, LinkFailed};
 pub use memory::{Feed, MemBell, MemClock, MemLink};
 pub use talk::{Mark, Talk};
-
-#[cfg(test)]
-mod tests;

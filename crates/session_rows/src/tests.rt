@@ -1,6 +1,8 @@
 //! Whole sessions: what is written, how they end, and which entries they make.
 mod client;
 mod lines;
+mod memory;
+mod routes;
 mod site;
 
 use lic_types::Client;

@@ -2,4 +2,5 @@ mod audits;
 mod checks;
 mod files;
 mod replays;
+mod replies;
 mod tools;

@@ -6,6 +6,3 @@ mod link;
 
 pub use call::{Call, Stage};
 pub use link::TrialLink;
-
-#[cfg(test)]
-mod tests;

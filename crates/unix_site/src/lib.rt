@@ -12,6 +12,3 @@ pub use clock::SystemClock;
 pub use door::UnixDoor;
 pub use link::UnixLink;
 pub use site::UnixSite;
-
-#[cfg(test)]
-mod tests;

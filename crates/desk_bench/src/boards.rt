@@ -1,0 +1,124 @@
+//! Publishings to a board and glances at it.
+ghost use Rattle.std.specs.Prelude.{◌≡◌, ◌≤◌, []};
+ghost use Rattle.stat_board.specs.OneSeat.{one_seat, IsIdle};
+
+use anyhow::{Context, Result, bail, ensure};
+use lic_types::{Client, Name};
+use options_machine::{Entry, Kind, Reply, Request};
+use stat_board::{Board, BoardPass, Glance, Ruling};
+use std::alloc::Global;
+use std::env::Args;
+use std::sync::Wait;
+
+/// Which call is made in a round.
+#[derive(Clone, Copy)]
+enum Call {
+    Publish,
+    Glance,
+}
+
+impl Call {
+    fn of(word: &str) -> Result<Call> {
+        match word {
+            "publish" => Ok(Call::Publish),
+            "glance" => Ok(Call::Glance),
+            _ => bail!("neither publish nor glance"),
+        }
+    }
+}
+
+/// The desk has one seat.
+struct OneSeat;
+
+impl Ruling<()> for OneSeat {
+    ghost use Rattle.stat_board.specs.OneSeat.{one_seat};
+
+    ghost sets = { λ _. one_seat };
+}
+
+const OPENING: Glance = Glance {
+    front: 0,
+    held: 0,
+    lingering: 0,
+    taken: 0,
+    free: 1,
+    queued: 0,
+};
+
+/// Publishes that party 0 looks for its seat, and has none.
+fn look<R: Wait>(rt: &R, client: &Client, board: &mut Board)
+    requires sets { board.old.front.sets ≡ one_seat }
+    requires idle { IsIdle board.old.front.list }
+    ensures sets { board.new.front.sets ≡ one_seat }
+    ensures idle { IsIdle board.new.front.list }
+{
+    let looked = Entry {
+        request: Request {
+            party: 0,
+            client: *client,
+            kind: Kind::Look,
+        },
+        moment: 0,
+        reply: Reply::NotHeld,
+    };
+    board.publish(rt, &looked, OPENING);
+}
+
+fn publish<R: Wait>(rt: &R, client: &Client, board: &mut Board, rounds: u32)
+    requires sets { board.old.front.sets ≡ one_seat }
+    requires idle { IsIdle board.old.front.list }
+{
+    for _round in 0..rounds {
+        look(rt, client, board);
+    }
+}
+
+fn read(pass: &mut BoardPass, rounds: u32) {
+    for _round in 0..rounds {
+        pass.glance();
+    }
+}
+
+/// Makes the calls, and gives the last front.
+fn run<R: Wait>(
+    rt: &R,
+    client: &Client,
+    mut board: Board,
+    mut passes: Vec<BoardPass>,
+    call: Call,
+    rounds: u32,
+) -> u64
+    requires sets { board.front.sets ≡ one_seat }
+    requires empty { board.front.list ≡ [] }
+{
+    let mut last = 0;
+    if let Some(mut pass) = passes.pop() {
+        match call {
+            Call::Publish => publish(rt, client, &mut board, rounds),
+            Call::Glance => {
+                publish(rt, client, &mut board, 1);
+                read(&mut pass, rounds);
+            }
+        }
+        last = pass.glance().front;
+    }
+    board.end(rt);
+    last
+}
+
+/// The front that is read behind the calls of these words.
+pub fn front_of_board<R: Wait>(rt: &R, alloc: Global, mut words: Args) -> Result<u64> {
+    let call = Call::of(words.next().context("no call")?.as_str())?;
+    let n: u32 = words.next().context("no number of readers")?.parse()?;
+    let rounds: u32 = words.next().context("no number of rounds")?.parse()?;
+    ensure!(1 <= n && n <= 256, "not from 1 to 256 readers");
+    let name = Name::read(b"ann")?;
+    let client = Client {
+        user: name,
+        host: name,
+        display: name,
+        project: name,
+    };
+    let (board, passes) = Board::make::<R, (), OneSeat>(rt, alloc, &(), OPENING, n)?;
+    Ok(run(rt, &client, board, passes, call, rounds))
+}

@@ -1,0 +1,60 @@
+//! A link that plays a client of a trial.
+use session_outside::{Got, Link};
+use std::test::Fail;
+use trial_link::TrialLink;
+
+/// Each row is a line of the client and the reply to it.
+#[test]
+fn a_client_plays_its_rounds(rt: HostRuntime) -> Result<(), Fail> {
+    let rows: [(&[u8], &[u8]); 8] = [
+        (b"HELLO u3 h3 d3 p3\n", b"WELCOME 3\n"),
+        (b"CHECKOUT trial 1.0\n", b"NOSEAT TAKEN 2 OF 2 #0\n"),
+        (b"CHECKOUT trial 1.0\n", b"GRANTED SEAT 0 OPEN #1\n"),
+        (b"CHECKIN trial\n", b"RETURNED #2\n"),
+        (b"CHECKOUT trial 1.0\n", b"GRANTED SEAT 1 OPEN #3\n"),
+        (b"CHECKIN trial\n", b"RETURNED #4\n"),
+        (b"QUIT\n", b"BYE\n"),
+        (b"", b""),
+    ];
+    let mut link = TrialLink::make(rt.alloc(), 3, 2)?;
+    let mut room = [0u8; 32];
+    for (line, reply) in rows {
+        let got = link.read(&mut room);
+        if line.is_empty() {
+            assert!(rt; got == Got::End);
+        } else {
+            assert!(rt; got == Got::Bytes(line.len()));
+            assert!(rt; room.starts_with(line));
+            assert!(rt; link.write(reply).is_ok());
+        }
+    }
+    assert_eq!(rt; (link.played, link.grants), (2, 2));
+    Ok(())
+}
+
+#[test]
+fn a_line_is_given_in_pieces_that_fit(rt: HostRuntime) -> Result<(), Fail> {
+    let mut link = TrialLink::make(rt.alloc(), 255, 1)?;
+    let mut room = [0u8; 20];
+    assert!(rt; link.read(&mut room) == Got::Bytes(20));
+    assert!(rt; room.as_slice() == b"HELLO u255 h255 d255".as_slice());
+    assert!(rt; link.read(&mut room) == Got::Bytes(6));
+    assert!(rt; room.starts_with(b" p255\n"));
+    assert!(rt; link.read(&mut room) == Got::End);
+    assert!(rt; link.write(b"WELCOME 0\n").is_ok());
+    assert!(rt; link.read(&mut room) == Got::End);
+    Ok(())
+}
+
+#[test]
+fn another_reply_to_a_checkout_ends_it(rt: HostRuntime) -> Result<(), Fail> {
+    let mut link = TrialLink::make(rt.alloc(), 0, 1)?;
+    let mut room = [0u8; 32];
+    assert!(rt; link.read(&mut room) == Got::Bytes(18));
+    assert!(rt; link.write(b"WELCOME 0\n").is_ok());
+    assert!(rt; link.read(&mut room) == Got::Bytes(19));
+    assert!(rt; link.write(b"UNKNOWN\n").is_ok());
+    assert!(rt; link.read(&mut room) == Got::End);
+    assert_eq!(rt; (link.played, link.grants), (0, 0));
+    Ok(())
+}

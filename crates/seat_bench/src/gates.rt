@@ -1,0 +1,70 @@
+//! Pairs of enter and leave on the seats behind a fast gate.
+ghost use Rattle.std.specs.Prelude.{◌≡◌};
+
+use anyhow::{Context, Result, ensure};
+use kex_gate::{GateOut, GatedSeats};
+use std::alloc::Global;
+use std::env::Args;
+use std::sync::Wait;
+use std::thread::{Threads, map_vec};
+
+/// How many pairs of calls were made, and how many of them by the fast way.
+#[derive(Clone, Copy)]
+pub struct Pairs {
+    /// All pairs.
+    pub all: u64,
+    /// Those by the fast way.
+    pub fast: u64,
+}
+
+impl Pairs {
+    fn and(self, others: Pairs) -> Pairs {
+        Pairs {
+            all: self.all.wrapping_add(others.all),
+            fast: self.fast.wrapping_add(others.fast),
+        }
+    }
+}
+
+const NONE: Pairs = Pairs { all: 0, fast: 0 };
+
+/// Enters and leaves so often, and counts.
+fn come_and_go<R: Wait>(rt: &R, gate: &GatedSeats, mut out: GateOut, rounds: u32) -> Pairs
+    requires { out.gate ≡ gate.now }
+{
+    let mut count = NONE;
+    for _round in 0..rounds {
+        let hold = gate.enter(rt, out);
+        let fast = u64::from(hold.fast());
+        out = gate.leave(hold);
+        count = count.and(Pairs { all: 1, fast });
+    }
+    count
+}
+
+/// The pairs that the threads of these words make at a gate.
+pub fn pairs_at_gate<R: Threads + Wait + Sync>(
+    rt: &R,
+    alloc: Global,
+    mut words: Args,
+) -> Result<Pairs> {
+    let n: u32 = words.next().context("no number of sessions")?.parse()?;
+    let k: u32 = words.next().context("no number of licences")?.parse()?;
+    let threads: usize = words.next().context("no number of threads")?.parse()?;
+    let rounds: u32 = words.next().context("no number of rounds")?.parse()?;
+    ensure!(2 <= n && n <= 256 && 1 <= k && k <= 256, "no such gate");
+    ensure!(
+        2 * k < n,
+        "not fewer than half as many licences as sessions"
+    );
+    ensure!(n + k <= 256, "more than 256 sessions and seats");
+    let (gate, mut passes) = GatedSeats::make(alloc, n, k)?;
+    passes.truncate(threads);
+    let shared = &gate;
+    let counting = |out: GateOut| -> Pairs
+        requires { out.gate ≡ shared.now }
+    { come_and_go(rt, shared, out, rounds) };
+    let counts = map_vec(rt, passes, &counting)?;
+    let total = counts.iter().fold(NONE, |sum, count| sum.and(*count));
+    Ok(total)
+}
