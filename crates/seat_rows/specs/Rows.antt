@@ -1,7 +1,5 @@
 -- How the seats are kept.
 use Rattle.std.specs.Prelude.{◌≡◌, ℕ, ◌≤◌, Bool, true, ◌&&◌, ◌==◌, suc, List, [], ◌∷◌, Option, None, Some, length, slice_index_or}
-use Rattle.std.specs.Option.{option_map}
-use Rattle.linger_clock.specs.Deadlines.{Deadlines, IsClock, until_of}
 use Rattle.options_machine.specs.declared.rows.Holder.{Holder}
 use Rattle.seat_rows.specs.Seats.{SeatList}
 
@@ -21,16 +19,14 @@ are_rows_from first (Some h ∷ rows) = h.party == first && are_rows_from (suc f
 abbrev pub seat_list : List (Option Holder) → SeatList
 seat_list rows = record { parties = length rows; holders = holders_in rows }
 
--- the beat of a seat, if there is one
-abbrev pub beat_in : Option Holder → Option ℕ
-beat_in o = option_map (λ (h : Holder). h.beat) o
+-- each holder has a mark, and was not heard before it
+abbrev pub AreMarked : List (Option Holder) → List (Option ℕ) → Type 0
+AreMarked rows marks = (party : ℕ) (h : Holder) → slice_index_or rows party None ≡ Some h → (mark : ℕ) × (slice_index_or marks party None ≡ Some mark) × (mark ≤ h.beat)
 
--- each holder stands in the row of its party, and their number is kept; each beat stands in the clock under its party, and nothing else does
-pub record AreKept (rows : List (Option Holder)) (held : ℕ) (beats : Deadlines) : Type 0 where
+-- each holder stands in the row of its party, and their number is kept; each has a mark
+pub record AreKept (rows : List (Option Holder)) (held : ℕ) (marks : List (Option ℕ)) : Type 0 where
   pub in_place : are_rows_from 0 rows ≡ true
   pub few : length rows ≤ 256
   pub number : held ≡ length (holders_in rows)
-  pub waits : (party : ℕ) → until_of party beats.pairs ≡ beat_in (slice_index_or rows party None)
-  pub clock : IsClock beats
-  pub as_many : length beats.pairs ≡ length (holders_in rows)
-  pub room : beats.room ≡ length rows
+  pub long : length marks ≡ length rows
+  pub marked : AreMarked rows marks

@@ -1,8 +1,9 @@
 //! The seats of a pool by rows: which party has one, and whose goes because the party was not heard.
 //!
-//! Each party has a row, which holds its seat, and the beats of all seats stand in a clock. So no call goes through the
-//! holders: each costs the same whatever their number, but for the clock, whose cost grows by a logarithm. All memory
-//! is taken when the rows are made.
+//! Each party has a row, which holds its seat, and a clock has a mark for it, at its last beat or before. A beat doesn't
+//! move the mark: once it has come, it is moved to the last beat, or the seat goes, or the party has none any more. So no
+//! call goes through the holders, and most don't touch the clock, whose cost grows by a logarithm. All memory is taken
+//! when the rows are made.
 #![tactic(auto)]
 
 ghost use Rattle.std.specs.Prelude.{◌≡◌, ◌+◌, ◌==◌, ◌<◌, ◌≤◌, [], None, Some, Bool, if◌then◌else◌, IfNone, IfOk, IfSome, count_by, filter, find, length, map, not};
@@ -14,11 +15,12 @@ ghost use Rattle.seat_rows.specs.Rows.{holders_in};
 ghost use Rattle.seat_rows.specs.Seats.{IsSeatList, charged_if, is_heard};
 
 mod beats;
+mod silent;
 
-use beats::{add_beat, drop_beat, move_beat};
-use linger_clock::Clock;
+use beats::Beats;
 pub use no_memory::NoMemory;
 use options_machine::{Charge, Holder};
+use silent::next_silent;
 use std::alloc::Global;
 use std::marker::Model;
 
@@ -28,8 +30,9 @@ pub struct SeatRows {
     // The seat of each party, by its number.
     rows: Vec<Option<Holder>>,
     held: u32,
-    // The beat of each holder, under its party. It isn't the end of a timeout, so a new timeout changes nothing here.
-    beats: Clock,
+    // A mark for each holder, at its last beat or before. It isn't the end of a timeout, so a new timeout changes
+    // nothing here.
+    beats: Beats,
 }
 
 impl Model for SeatRows {
@@ -64,7 +67,7 @@ impl SeatRows {
         ensures { IfOk result (λ seats. seats ≡ record { parties = parties; holders = [] }) }
     {
         let rows = vec![in alloc; None; parties as usize]?;
-        let beats = Clock::make(alloc, parties)?;
+        let beats = Beats::make(alloc, parties)?;
         Ok(SeatRows {
             rows,
             held: 0,
@@ -118,7 +121,7 @@ impl SeatRows {
     {
         self.rows[holder.party as usize] = Some(*holder);
         self.held += 1;
-        add_beat(&mut self.beats, holder.party, holder.beat);
+        self.beats.note(holder.party as usize, holder.beat);
     }
 
     /// Takes the party's seat away, if it has one.
@@ -129,7 +132,6 @@ impl SeatRows {
         if self.rows[party as usize].is_some() {
             self.rows[party as usize] = None;
             self.held -= 1;
-            drop_beat(&mut self.beats, party);
         }
     }
 
@@ -142,7 +144,7 @@ impl SeatRows {
         if let Some(holder) = &mut self.rows[party as usize] {
             holder.told = true;
             holder.beat = now;
-            move_beat(&mut self.beats, party, now);
+            self.beats.note(party as usize, now);
         }
     }
 
@@ -168,7 +170,7 @@ impl SeatRows {
         ensures none { IfNone result (self.new ≡ self.old) }
         ensures heard { IfNone result (filter (is_heard over) self.old.holders ≡ self.old.holders) }
     {
-        let party = self.beats.settle(over)? as usize;
+        let party = next_silent(self.rows.as_slice(), &mut self.beats, over)?;
         let gone = self.rows[party];
         self.rows[party] = None;
         self.held -= 1;
