@@ -8,7 +8,7 @@ use Rattle.desk_seats.proofs.seats.DeskSeats.make.Goals as goal
 pub returns-clause-passes : goal.returns-clause-passes
 returns-clause-passes c =
     let t = c.in_ok-seats.seats in
-    lifted plain_pass c.in_ok-seats.outs.items c.lift_plain.new.passes.items c.lift_plain.ensures (λ (i : ℕ). words.unused t i) c.in_ok-seats.ensures.passes
+    lifted plain_pass c.in_ok-seats.outs.items c.lift_plain.new.passes.items c.lift_plain.ensures (λ (i : ℕ). words.unused_pass t i) c.in_ok-seats.ensures.passes
 
 pub returns-clause-own : goal.returns-clause-own
 returns-clause-own c =
