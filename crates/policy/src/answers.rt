@@ -11,7 +11,7 @@ ghost use Rattle.options_machine.specs.Step.{answer_by_decision, answer_of, answ
 use crate::rows::Rows;
 use counter::Glance;
 use lic_types::Client;
-use options_machine::{Ask, Decision, Effect, Holder, Lingerer, Place, Reply, Request, Task};
+use options_machine::{Ask, Decision, Effect, Holder, Lingerer, Reply, Request, Task};
 
 /// The numbers of a book.
 fn counts<B: Rows>(book: &B, own: bool, queued: bool) -> Reply
@@ -122,11 +122,18 @@ fn answer_of<B: Rows>(book: &B, party: u32, client: &Client, ask: Ask) -> (Reply
     requires { party < (B.seen book.now).parties }
     ensures { result ≡ answer_of (rules_now (B.seen book.now)) (B.seen book.now).state party client.now ask (place (B.seen book.now).state party) }
 {
-    match book.place(party) {
-        Place::Told(holder) => to_told(book, &holder, ask),
-        Place::Untold(holder) => to_untold(book, &holder, ask),
-        Place::Waiting(queuer) => to_waiting(book, party, &queuer.client, ask),
-        Place::Away => to_away(book, client, ask),
+    match book.holder_of(party) {
+        Some(holder) => {
+            if holder.told {
+                to_told(book, holder, ask)
+            } else {
+                to_untold(book, holder, ask)
+            }
+        }
+        None => match book.queuer_of(party) {
+            Some(queuer) => to_waiting(book, party, &queuer.client, ask),
+            None => to_away(book, client, ask),
+        },
     }
 }
 
@@ -164,9 +171,9 @@ pub fn step<B: Rows>(book: &mut B, request: &Request, moment: u64) -> (Reply, u6
             Reply::Reread(set)
         }
         Task::Answer(ask) => {
-            let (reply, effect) = answer_of(book, request.party, &request.client, ask);
-            apply(book, request.party, &request.client, &effect);
-            reply
+            let answer = answer_of(book, request.party, &request.client, ask);
+            apply(book, request.party, &request.client, &answer.1);
+            answer.0
         }
     };
     (reply, book.now())
