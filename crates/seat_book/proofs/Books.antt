@@ -1,4 +1,4 @@
-use Rattle.std.proofs.Common.{◌≡◌, ℕ, ◌+◌, ◌<◌, ◌≤◌, ◌^◌, true, false, min, List, [], None, length, get_or, refl, ap, sym, ◌∙◌, arith, subst, vec_capacity}
+use Rattle.std.proofs.Common.{◌≡◌, ℕ, ◌+◌, ◌<◌, ◌≤◌, ◌^◌, true, false, List, [], None, length, get_or, ap, sym, ◌∙◌, arith, subst, vec_capacity}
 use Rattle.std.specs.List.{count_by, find}
 use Rattle.std.proofs.lemmas.List.Sums.{count_by-le-length}
 use Rattle.lic_types.specs.declared.client.Client.{Client}

@@ -5,7 +5,7 @@ use Rattle.options_machine.specs.Rules.{Rules}
 use Rattle.options_machine.specs.State.{State, is_holder}
 use Rattle.options_machine.specs.Step.{holders_anew}
 use Rattle.seat_rows.specs.Seats.{SeatList, charged_if}
-use Rattle.seat_counters.specs.Counts.{CounterList, Counts, counts_with}
+use Rattle.seat_counters.specs.Counts.{CounterList, counts_with}
 use Rattle.seat_book.specs.Charges.{AreAnewBelow, counts_in}
 use Rattle.seat_book.specs.Parts.{HasSameRoom, state_of}
 use Rattle.seat_book.specs.declared.parts.Parts.{Parts}
