@@ -11,5 +11,5 @@ pub apply-requires-clause-fits : goal.apply-requires-clause-fits
 apply-requires-clause-fits g c =
     let b : Book = g.B.Rows.seen c.settle.new.self in
     let s : State = b.state in
-    subst (λ (x : Reply × Effect). Fits (rules_now b) s c.args.request.now.party c.args.request.now.client x.1) (sym c.answer_of-answer.ensures)
+    subst (λ (x : Reply × Effect). Fits (rules_now b) s c.args.request.now.party c.args.request.now.client x.1) (sym c.answer_of-reply.ensures)
     (answer_fits (rules_now b) s c.args.request.now.party c.args.request.now.client c.in-Answer.ask (place s c.args.request.now.party) (place_is s c.args.request.now.party))
