@@ -1,4 +1,5 @@
 pub mod Books
+pub mod Changes
 pub mod Kept
 pub mod Passing
 pub mod Sound

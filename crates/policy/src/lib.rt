@@ -6,6 +6,7 @@
 
 mod anew;
 mod answers;
+mod change;
 mod lists;
 mod matching;
 mod members;

@@ -1,48 +1,30 @@
 //! What a party has in the lists, and how that changes.
 ghost use Rattle.std.specs.Prelude.{◌≡◌, ◌+◌, ◌<◌, ◌^◌, not, filter, find, length, map, vec_capacity};
 ghost use Rattle.std.specs.List.{position};
+ghost use Rattle.std.specs.Option.{option_copied};
 ghost use Rattle.lic_types.specs.declared.limits.TheConstants.{MOMENT_END};
 ghost use Rattle.policy.specs.Kept.{HasSameRoom, state_of};
-ghost use Rattle.options_machine.specs.State.{is_holder, is_queuer, place};
+ghost use Rattle.options_machine.specs.State.{is_holder, is_queuer};
 ghost use Rattle.options_machine.specs.Apply.{told_if, with_lingerer, with_told};
 ghost use Rattle.options_machine.specs.Step.{entry_left, position_of};
 
 use crate::lists::Lists;
 use crate::rules::DeskRules;
 use lic_types::LINGER_LIMIT;
-use options_machine::{Holder, Lingerer, Place, Queuer};
+use options_machine::{Holder, Lingerer, Queuer};
 
 /// The party's entry among the holders.
-fn find_holder(holders: &[Holder], party: u32) -> Option<Holder>
-    ensures { result ≡ find (is_holder party) holders.now }
+pub(crate) fn find_holder(holders: &[Holder], party: u32) -> Option<&Holder>
+    ensures { option_copied result ≡ find (is_holder party) holders.now }
 {
-    holders.iter().copied().find(|h| h.party == party)
+    holders.iter().find(|h| h.party == party)
 }
 
 /// The party's entry in the queue.
-fn find_queuer(queue: &[Queuer], party: u32) -> Option<Queuer>
-    ensures { result ≡ find (is_queuer party) queue.now }
+pub(crate) fn find_queuer(queue: &[Queuer], party: u32) -> Option<&Queuer>
+    ensures { option_copied result ≡ find (is_queuer party) queue.now }
 {
-    queue.iter().copied().find(|q| q.party == party)
-}
-
-/// What the party has.
-pub(crate) fn place(lists: &Lists, party: u32) -> Place
-    ensures { result ≡ place (state_of lists.now) party }
-{
-    match find_holder(lists.holders.as_slice(), party) {
-        Some(holder) => {
-            if holder.told {
-                Place::Told(holder)
-            } else {
-                Place::Untold(holder)
-            }
-        }
-        None => match find_queuer(lists.queue.as_slice(), party) {
-            Some(queuer) => Place::Waiting(queuer),
-            None => Place::Away,
-        },
-    }
+    queue.iter().find(|q| q.party == party)
 }
 
 /// Tells the holder, now, if it is the party.

@@ -11,12 +11,14 @@ ghost use Rattle.options_machine.specs.Step.{set_asked, step};
 use crate::anew::charge_anew;
 use crate::answers;
 use crate::lists::{Lists, charges, decide, seat, seat_again, settle};
-use crate::members::{drop_holder, drop_queuer, entry_left, linger, place, position_of, tell};
+use crate::members::{
+    drop_holder, drop_queuer, entry_left, find_holder, find_queuer, linger, position_of, tell,
+};
 use crate::rows::Rows;
 use crate::rules::DeskRules;
 use counter::Glance;
 use lic_types::{Client, LINGER_LIMIT, NoMemory};
-use options_machine::{Charge, Decision, Holder, Kind, Lingerer, Place, Queuer, Reply, Request};
+use options_machine::{Charge, Decision, Holder, Kind, Lingerer, Queuer, Reply, Request};
 use std::alloc::Global;
 use std::marker::Model;
 
@@ -134,8 +136,12 @@ impl Rows for PlainBook {
         self.lists.moment
     }
 
-    fn place(&self, party: u32) -> Place {
-        place(&self.lists, party)
+    fn holder_of(&self, party: u32) -> Option<&Holder> {
+        find_holder(self.lists.holders.as_slice(), party)
+    }
+
+    fn queuer_of(&self, party: u32) -> Option<&Queuer> {
+        find_queuer(self.lists.queue.as_slice(), party)
     }
 
     fn decide(&self, client: &Client) -> Decision {

@@ -1,17 +1,18 @@
 //! What a book must be able to tell and to change.
-ghost use Rattle.std.specs.Prelude.{◌≡◌, true, ◌+◌, ◌<◌, ◌≤◌, length};
+ghost use Rattle.std.specs.Prelude.{◌≡◌, true, ◌+◌, ◌<◌, ◌≤◌, find, length};
+ghost use Rattle.std.specs.Option.{option_copied};
 ghost use Rattle.lic_types.specs.declared.limits.TheConstants.{PARTY_LIMIT};
 ghost use Rattle.policy.specs.Books.{Book, rules_now};
 ghost use Rattle.options_machine.specs.declared.effect.Effect.TheVariants.{Join, Linger, Reseat, Seat};
 ghost use Rattle.options_machine.specs.declared.reply.Charge.TheVariants.{Open};
-ghost use Rattle.options_machine.specs.State.{charges, place};
+ghost use Rattle.options_machine.specs.State.{charges, is_holder, is_queuer};
 ghost use Rattle.options_machine.specs.Decide.{decide};
 ghost use Rattle.options_machine.specs.Settle.{settle, with_queuer, with_seat, with_seat_again};
 ghost use Rattle.options_machine.specs.Apply.{Fits, HasSeat, Waits, with_lingerer, with_told, without_holder, without_queuer};
 ghost use Rattle.options_machine.specs.Step.{entry_left, position_of, reread};
 
 use lic_types::Client;
-use options_machine::{Charge, Decision, Holder, Lingerer, Place};
+use options_machine::{Charge, Decision, Holder, Lingerer, Queuer};
 
 /// The rows of a book: what can be asked of the state of one pool, and each way in which it changes. Whatever keeps
 /// them so answers as the options machine does (`step`). None of these calls takes memory.
@@ -27,10 +28,14 @@ pub trait Rows {
     fn now(&self) -> u64
         ensures { result ≡ (seen self.now).state.now };
 
-    /// What a party has.
-    fn place(&self, party: u32) -> Place
+    /// The seat of a party; None where it has none.
+    fn holder_of(&self, party: u32) -> Option<&Holder>
         requires { party < (seen self.now).parties }
-        ensures { result ≡ place (seen self.now).state party };
+        ensures { option_copied result ≡ find (is_holder party) (seen self.now).state.holders };
+
+    /// The entry in the queue of a party; None where it doesn't wait.
+    fn queuer_of(&self, party: u32) -> Option<&Queuer>
+        ensures { option_copied result ≡ find (is_queuer party) (seen self.now).state.queue };
 
     /// What the rules say to a client that wants a seat.
     fn decide(&self, client: &Client) -> Decision

@@ -1,7 +1,7 @@
-use Rattle.std.proofs.Common.{◌≡◌, ℕ, ◌+◌, ◌<◌, ◌≤◌, ◌^◌, Bool, true, false, cond, ◌&&◌, List, [], ◌∷◌, ◌++◌, length, Option, None, Some, map, take, drop, get_or, suc, add-one, drop-cons, refl, ap, sym, ◌∙◌, arith, subst, ltb, leb, eqb, append_assoc, append-nil, length-append, length-take}
-use Rattle.std.specs.List.{count_by, find, list_all}
+use Rattle.std.proofs.Common.{◌≡◌, ℕ, ◌+◌, ◌<◌, ◌≤◌, ◌^◌, Bool, true, false, ◌&&◌, List, [], ◌∷◌, ◌++◌, length, None, Some, map, take, drop, get_or, suc, add-one, drop-cons, refl, ap, sym, ◌∙◌, arith, subst, ltb, leb, eqb, append_assoc, append-nil, length-append, length-take}
+use Rattle.std.specs.List.{find, list_all}
 use Rattle.std.specs.Option.{option_map}
-use Rattle.std.proofs.lemmas.Bool.{eqb-true, eqb-false, eq-eqb, ne_eqb, ltb-true, ltb-false, leb-true, leb-false, lt-ltb, le-ltb, le-leb}
+use Rattle.std.proofs.lemmas.Bool.{eqb-true, eqb-false, eq-eqb, ne_eqb, ltb-true, ltb-false, leb-true, lt-ltb, le-leb}
 use Rattle.std.proofs.lemmas.List.Folds.{list_all-append}
 use Rattle.std.proofs.lemmas.List.{drop-set-lt, take_more_set}
 use Rattle.std.proofs.lemmas.Option.{get_or_from_slice_get, slice_get_past}
@@ -15,14 +15,14 @@ use Rattle.options_machine.specs.declared.reply.Charge.TheVariants.{Reserve}
 use Rattle.options_machine.specs.declared.rows.Holder.{Holder}
 use Rattle.options_machine.specs.declared.rows.Lingerer.{Lingerer}
 use Rattle.options_machine.specs.Rules.{Rules, applies}
-use Rattle.options_machine.specs.State.{State, charges, is_holder, opening, same_charge}
+use Rattle.options_machine.specs.State.{State, is_holder, opening, same_charge}
 use Rattle.options_machine.specs.Decide.{has_room, number_of_limit}
 use Rattle.options_machine.specs.Law.{are_in_order}
 use Rattle.options_machine.specs.Step.{holders_anew, lingering_anew, next_charge, reserve_or_open, times}
-use Rattle.options_machine.proofs.Counts.{and_left, and_right, count-push, find_passes}
+use Rattle.options_machine.proofs.Counts.{and_left, and_right, count-push}
 use Rattle.options_machine.proofs.Keeps.{charges_is, charges_of}
 use Rattle.seat_rows.specs.Seats.{charged_if}
-use Rattle.seat_counters.specs.Counts.{AreOf, AreSmall, Counts, counts_of, counts_with, first_line, has_seat}
+use Rattle.seat_counters.specs.Counts.{AreOf, AreSmall, Counts, counts_with, first_line, has_seat}
 use Rattle.seat_counters.proofs.Counted.{counts_are_of, counts_are_small, counts_more, seat_is_room}
 use Rattle.seat_book.specs.Charges.{AreAnewBelow, AreAnewUpTo, counts_in}
 

@@ -1,4 +1,4 @@
-use Rattle.std.proofs.Common.{◌≡◌, ℕ, ◌+◌, ◌<◌, ◌≤◌, ◌^◌, true, false, min, List, [], None, length, get_or, refl, ap, sym, ◌∙◌, arith, subst, vec_capacity}
+use Rattle.std.proofs.Common.{◌≡◌, ℕ, ◌+◌, ◌<◌, ◌≤◌, ◌^◌, true, false, List, [], None, length, get_or, ap, sym, ◌∙◌, arith, subst, vec_capacity}
 use Rattle.std.specs.List.{count_by, find}
 use Rattle.std.proofs.lemmas.List.Sums.{count_by-le-length}
 use Rattle.lic_types.specs.declared.client.Client.{Client}
@@ -6,6 +6,7 @@ use Rattle.options_machine.specs.declared.decision.Place.TheVariants.{Away}
 use Rattle.options_machine.specs.declared.effect.Effect.{Effect}
 use Rattle.options_machine.specs.declared.effect.Effect.TheVariants.{Linger, Reseat, Seat}
 use Rattle.options_machine.specs.declared.reply.Charge.{Charge}
+use Rattle.options_machine.specs.declared.rows.Holder.{Holder}
 use Rattle.options_machine.specs.declared.rows.Lingerer.{Lingerer}
 use Rattle.options_machine.specs.Rules.{IsSound, Rules}
 use Rattle.options_machine.specs.State.{State, in_use, is_holder, set_at}
@@ -22,7 +23,7 @@ use Rattle.options_machine.proofs.Steps.{apply_set, away_has_none, kept_anew, ke
 use Rattle.options_machine.proofs.Bounds.{bounded_anew, bounded_apply, bounded_settle, entries_fit, entry_fits}
 use Rattle.policy.specs.Books.{rules_now}
 use Rattle.policy.proofs.Books.{set_is}
-use Rattle.seat_counters.specs.Counts.{HasRoomFor, counts_of}
+use Rattle.seat_counters.specs.Counts.{CounterList, Counts, HasRoomFor, counts_of, no_counts}
 use Rattle.seat_counters.proofs.Effects.{counts_of-with_lingerer, counts_of-with_seat_again, counts_of-with_told}
 use Rattle.seat_book.specs.Beats.{heard_after}
 use Rattle.seat_book.specs.Books.{BookWithGrants, rows_of}
@@ -205,3 +206,13 @@ seat_few b sets p grants party client charge e k fits =
     let (away, d) = subst (λ (v : BookWithGrants). Fits (rules_now (rows_of v)) v.state party client (Seat charge)) (sym e) fits in
     let r : Rules = set_at sets p.set in
     grant_within r (state_of p) (record { party = party; client = client }) charge d (k.rules.sound p.set k.set) k.kept
+
+-- a book without seats counts none
+
+pub counted_none : (r first : Rules) (p : Parts) → p.seats.holders ≡ [] → p.table.entries ≡ [] → first ≡ r → p.counters.counts ≡ no_counts first → AreCounted r p
+counted_none r first p h l e c = c ∙ ap no_counts e ∙ sym (ap (λ (s : State). counts_of r s) (ap (λ (hs : List Holder). record (state_of p) { holders = hs }) h ∙ ap (λ (ls : List Lingerer). record (state_of p) { holders = []; lingering = ls }) l))
+
+pub room_cleared : (sets read : List Rules) (k : ℕ) (made : CounterList) (new : Counts) → read ≡ sets → ((k : ℕ) → k < length read → HasRoomFor (set_at read k) made) → k < length sets → HasRoomFor (set_at sets k) (record made { counts = new })
+room_cleared sets read k made new same room less =
+    let r : HasRoomFor (set_at sets k) made = subst (λ (rs : List Rules). HasRoomFor (set_at rs k) made) same (room k (subst (λ (rs : List Rules). k < length rs) (sym same) less)) in
+    record { reserves = r.reserves; maxes = r.maxes }

@@ -1,5 +1,4 @@
-use Rattle.std.proofs.Common.{◌≡◌, ℕ, ◌+◌, ◌-◌, ◌<◌, ◌≤◌, Bool, true, false, cond, List, [], ◌∷◌, ◌++◌, Option, None, Some, filter, map, refl, ap, sym, ◌∙◌, arith, subst, ltb, not}
-use Rattle.std.specs.List.{count_by}
+use Rattle.std.proofs.Common.{◌≡◌, ℕ, ◌+◌, ◌-◌, ◌<◌, ◌≤◌, Bool, true, false, cond, List, [], ◌∷◌, ◌++◌, Some, filter, map, refl, ap, sym, ◌∙◌, arith, subst, ltb, not}
 use Rattle.std.proofs.lemmas.Bool.{ltb-true, ltb-false, lt-ltb, le-ltb}
 use Rattle.lic_types.specs.declared.client.Client.{Client}
 use Rattle.options_machine.specs.declared.decision.Decision.{Decision}
@@ -18,7 +17,7 @@ use Rattle.options_machine.specs.Step.{holders_anew, next_charge}
 use Rattle.options_machine.proofs.Counts.{count-cons, count-filter_le, count-with_holder}
 use Rattle.options_machine.proofs.Keeps.{timed_count}
 use Rattle.options_machine.proofs.Moments.{moved_later}
-use Rattle.options_machine.proofs.Steps.{apply_now, serve_now, settle_now}
+use Rattle.options_machine.proofs.Steps.{apply_now, settle_now}
 use Rattle.seat_book.specs.Beats.{heard_after}
 
 -- a holder more, whose beat is now

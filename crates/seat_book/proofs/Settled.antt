@@ -1,15 +1,15 @@
-use Rattle.std.proofs.Common.{◌≡◌, ℕ, ◌<◌, List, [], refl, ap, sym, ◌∙◌, arith, subst, ltb, leb}
+use Rattle.std.proofs.Common.{◌≡◌, ℕ, ◌<◌, [], refl, ap, sym, ◌∙◌, arith, ltb, leb}
 use Rattle.std.specs.List.{find}
 use Rattle.std.specs.Option.{option_map}
 use Rattle.std.proofs.lemmas.Bool.{lt-ltb}
 use Rattle.lic_types.specs.declared.client.Client.{Client}
 use Rattle.options_machine.specs.declared.rows.Holder.{Holder}
 use Rattle.options_machine.specs.declared.rows.Lingerer.{Lingerer}
-use Rattle.options_machine.specs.Rules.{IsSound, Rules}
+use Rattle.options_machine.specs.Rules.{Rules}
 use Rattle.options_machine.specs.State.{State, in_use}
 use Rattle.options_machine.specs.Decide.{has_room, number_of_limit, reserve_line_with_room}
 use Rattle.options_machine.specs.Law.{IsServed}
-use Rattle.options_machine.specs.Settle.{in_time, later_moment, serve, settle, timely}
+use Rattle.options_machine.specs.Settle.{later_moment, serve, settle, timely}
 use Rattle.options_machine.specs.Kept.{IsBounded, IsKept}
 use Rattle.options_machine.proofs.Counts.{length-filter_le}
 use Rattle.options_machine.proofs.Keeps.{Keeps, keeps_timely, timed_count}

@@ -1,7 +1,6 @@
 -- Beats that were.
-use Rattle.std.specs.Prelude.{ℕ, Bool, nat_lt, List, count_by}
+use Rattle.std.specs.Prelude.{ℕ, nat_lt, List, count_by}
 use Rattle.options_machine.specs.declared.rows.Holder.{Holder}
-use Rattle.options_machine.specs.State.{State}
 
 -- how many of these holders were heard after this moment
 abbrev pub heard_after : ℕ → List Holder → ℕ

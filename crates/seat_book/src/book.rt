@@ -13,13 +13,13 @@ ghost use Rattle.seat_book.specs.Books.{BookWithGrants, rows_of};
 use crate::charging::charge_anew;
 use crate::deciding::decide;
 use crate::members::{
-    drop_queuer, entry_left, linger, place, position_of, release, seat, seat_again,
+    drop_queuer, entry_left, find_queuer, linger, position_of, release, seat, seat_again,
 };
 use crate::parts::Parts;
 use crate::serving::settle;
 use lic_types::{Client, LINGER_LIMIT, NoMemory};
 use linger_table::LingerTable;
-use options_machine::{Charge, Decision, Holder, Kind, Lingerer, Place, Queuer, Reply, Request};
+use options_machine::{Charge, Decision, Holder, Kind, Lingerer, Queuer, Reply, Request};
 use policy::{DeskRules, Glance, Rows};
 use seat_counters::Counters;
 use seat_rows::SeatRows;
@@ -159,7 +159,7 @@ impl Book {
         requires { party < self.now.parties }
         ensures { result ≡ find (is_holder party) self.now.state.holders }
     {
-        self.parts.seats.get(party)
+        self.parts.seats.get(party).copied()
     }
 
     /// All seats, in order of party. The one error is want of memory.
@@ -226,8 +226,12 @@ impl Rows for Book {
         self.parts.moment
     }
 
-    fn place(&self, party: u32) -> Place {
-        place(&self.parts, party)
+    fn holder_of(&self, party: u32) -> Option<&Holder> {
+        self.parts.seats.get(party)
+    }
+
+    fn queuer_of(&self, party: u32) -> Option<&Queuer> {
+        find_queuer(self.parts.queue.as_slice(), party)
     }
 
     fn decide(&self, client: &Client) -> Decision {

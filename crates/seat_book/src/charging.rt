@@ -33,7 +33,7 @@ fn charge_holders(rules: &DeskRules, parts: &mut Parts)
     ensures room { HasSameRoom parts.old parts.new }
 {
     for party in 0..parts.seats.parties() {
-        match parts.seats.get(party) {
+        match parts.seats.get(party).copied() {
             None => {}
             Some(holder) => {
                 let charge = next_charge(rules, &parts.counters, &holder.client);

@@ -1,7 +1,8 @@
 //! What a party has, and how that changes.
 ghost use Rattle.std.specs.Prelude.{◌≡◌, ◌+◌, ◌<◌, ◌^◌, false, None, not, filter, find, length, vec_capacity};
 ghost use Rattle.std.specs.List.{position};
-ghost use Rattle.options_machine.specs.State.{in_use, is_holder, is_queuer, place};
+ghost use Rattle.std.specs.Option.{option_copied};
+ghost use Rattle.options_machine.specs.State.{in_use, is_holder, is_queuer};
 ghost use Rattle.options_machine.specs.Settle.{with_seat, with_seat_again};
 ghost use Rattle.options_machine.specs.Apply.{HasSeat, with_lingerer, without_holder};
 ghost use Rattle.options_machine.specs.Step.{entry_left, position_of};
@@ -9,34 +10,14 @@ ghost use Rattle.seat_book.specs.Parts.{AreCounted, HasSameRoom, state_of};
 
 use crate::parts::Parts;
 use lic_types::{Client, LINGER_LIMIT, MOMENT_END};
-use options_machine::{Charge, Holder, Lingerer, Place, Queuer};
+use options_machine::{Charge, Holder, Lingerer, Queuer};
 use policy::DeskRules;
 
 /// The party's entry in the queue.
-fn find_queuer(queue: &[Queuer], party: u32) -> Option<Queuer>
-    ensures { result ≡ find (is_queuer party) queue.now }
+pub(crate) fn find_queuer(queue: &[Queuer], party: u32) -> Option<&Queuer>
+    ensures { option_copied result ≡ find (is_queuer party) queue.now }
 {
-    queue.iter().copied().find(|q| q.party == party)
-}
-
-/// What the party has.
-pub(crate) fn place(parts: &Parts, party: u32) -> Place
-    requires { party < parts.now.seats.parties }
-    ensures { result ≡ place (state_of parts.now) party }
-{
-    match parts.seats.get(party) {
-        Some(holder) => {
-            if holder.told {
-                Place::Told(holder)
-            } else {
-                Place::Untold(holder)
-            }
-        }
-        None => match find_queuer(parts.queue.as_slice(), party) {
-            Some(queuer) => Place::Waiting(queuer),
-            None => Place::Away,
-        },
-    }
+    queue.iter().find(|q| q.party == party)
 }
 
 /// Where the party's entry stands in the queue, from 0.
@@ -97,8 +78,8 @@ pub(crate) fn release(rules: &DeskRules, parts: &mut Parts, party: u32)
     let Some(holder) = parts.seats.get(party) else {
         unreachable!()
     };
-    parts.seats.take(party);
     parts.counters.lower(rules, &holder.client, holder.charge);
+    parts.seats.take(party);
     parts.is_served = false;
 }
 

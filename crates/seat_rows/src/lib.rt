@@ -7,6 +7,7 @@
 #![tactic(auto)]
 
 ghost use Rattle.std.specs.Prelude.{◌≡◌, ◌+◌, ◌==◌, ◌<◌, ◌≤◌, [], None, Some, Bool, if◌then◌else◌, IfNone, IfOk, IfSome, count_by, filter, find, length, map, not};
+ghost use Rattle.std.specs.Option.{option_copied};
 ghost use Rattle.options_machine.specs.declared.rows.Holder.{Holder};
 ghost use Rattle.options_machine.specs.State.{is_holder};
 ghost use Rattle.options_machine.specs.Settle.{with_holder};
@@ -98,12 +99,12 @@ impl SeatRows {
     }
 
     /// The seat of a party; `None` where it has none.
-    pub fn get(&self, party: u32) -> Option<Holder>
+    pub fn get(&self, party: u32) -> Option<&Holder>
         requires { party < self.now.parties }
-        ensures seat { result ≡ find (is_holder party) self.now.holders }
+        ensures seat { option_copied result ≡ find (is_holder party) self.now.holders }
         ensures kept { IsSeatList self.now }
     {
-        self.rows[party as usize]
+        self.rows[party as usize].as_ref()
     }
 
     /// All seats, in order of party. The one error is want of memory.

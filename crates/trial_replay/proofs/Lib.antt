@@ -1,7 +1,7 @@
-mod Clients
 mod Counting
 mod Names
 mod Playing
 mod Readings
+mod Requests
 mod Running
 mod Sums

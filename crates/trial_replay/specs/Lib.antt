@@ -1,6 +1,6 @@
-pub mod Clients
 pub mod Counted
 pub mod Counts
 pub mod Events
 pub mod Replayed
+pub mod Requests
 pub mod Terms

@@ -1,8 +1,8 @@
 //! The events, each made from its number.
-ghost use Rattle.std.specs.Prelude.{◌≡◌, ◌∷◌, [], IfOk, decimal, true};
+ghost use Rattle.std.specs.Prelude.{◌≡◌, ◌∷◌, ◌<◌, [], IfOk, decimal, true};
 ghost use Rattle.lic_types.specs.Name.{is_name_byte};
-ghost use Rattle.trial_replay.specs.Clients.{clients_below};
-ghost use Rattle.trial_replay.specs.Events.{client_of, kind_numbered, mixed_number, moment_of, party_of, request_of};
+ghost use Rattle.trial_replay.specs.Events.{client_of, kind_numbered, mixed_number, moment_of, request_of};
+ghost use Rattle.trial_replay.specs.Requests.{request_numbered, requests_below};
 
 use lic_types::{Client, Name};
 use no_memory::NoMemory;
@@ -12,6 +12,9 @@ use std::alloc::Global;
 
 /// How many parties there are.
 pub(crate) const PARTIES: u32 = 16;
+
+/// How many kinds of requests each party makes.
+const KINDS: u32 = 4;
 
 /// By what the number of an event is multiplied, modulo 2^32.
 const MULTIPLIER: u64 = 2_654_435_761;
@@ -50,17 +53,6 @@ fn client_of(party: u32) -> Client
     }
 }
 
-/// The clients of all parties, in their order. The one error is want of memory.
-pub(crate) fn all_clients(alloc: Global) -> Result<Vec<Client>, NoMemory>
-    ensures { IfOk result (λ clients. clients.items ≡ clients_below 16) }
-{
-    let mut clients = Vec::new(alloc);
-    for party in 0..PARTIES {
-        clients.push(client_of(party))?;
-    }
-    Ok(clients)
-}
-
 /// The number of an event, mixed: the highest four bits give its party, and the two lowest of the next four what it
 /// asks.
 fn mixed(event: u32) -> u32
@@ -81,18 +73,37 @@ fn kind_numbered(number: u32) -> Kind
     }
 }
 
-/// The request of an event, where these are the clients of all parties.
-pub(crate) fn request_of(clients: &[Client], event: u32) -> Request
-    requires { clients.now ≡ clients_below 16 }
-    ensures { result ≡ request_of event }
+/// The request of this number: each party makes one of each kind.
+fn request_numbered(number: u32) -> Request
+    ensures { result ≡ request_numbered number }
 {
-    let mixed = mixed(event);
-    let party = mixed >> 28;
+    let party = number / KINDS;
     Request {
         party,
-        client: clients[party as usize],
-        kind: kind_numbered((mixed >> 24) % 4),
+        client: client_of(party),
+        kind: kind_numbered(number % KINDS),
     }
+}
+
+/// The requests of all parties, in their order. The one error is want of memory.
+pub(crate) fn all_requests(alloc: Global) -> Result<Vec<Request>, NoMemory>
+    ensures { IfOk result (λ requests. requests.items ≡ requests_below 64) }
+{
+    let mut requests = Vec::new(alloc);
+    for number in 0..PARTIES * KINDS {
+        requests.push(request_numbered(number))?;
+    }
+    Ok(requests)
+}
+
+/// The request of an event, among those of all parties.
+pub(crate) fn request_of(requests: &[Request], event: u32) -> &Request
+    requires { requests.now ≡ requests_below 64 }
+    ensures { result.now ≡ request_of event }
+{
+    let mixed = mixed(event);
+    let number = (mixed >> 28) * KINDS + (mixed >> 24) % KINDS;
+    &requests[number as usize]
 }
 
 /// The moment of an event, in seconds since 1970-01-01 UTC.

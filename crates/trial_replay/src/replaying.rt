@@ -2,31 +2,31 @@
 ghost use Rattle.std.specs.Prelude.{◌≡◌, ◌≤◌, IfOk};
 ghost use Rattle.options_machine.specs.Run.{IsRun};
 ghost use Rattle.options_machine.specs.State.{opening};
-ghost use Rattle.trial_replay.specs.Clients.{clients_below};
 ghost use Rattle.trial_replay.specs.Counts.{counts_of, total_of};
 ghost use Rattle.trial_replay.specs.Replayed.{replies_of, run_of};
+ghost use Rattle.trial_replay.specs.Requests.{requests_below};
 ghost use Rattle.trial_replay.specs.Terms.{bench_sets};
 
 use crate::counts::Counts;
-use crate::event::{all_clients, moment_of, request_of};
+use crate::event::{all_requests, moment_of, request_of};
 use crate::terms::trial_book;
-use lic_types::Client;
 use no_memory::NoMemory;
+use options_machine::Request;
 use seat_book::Book;
 use std::alloc::Global;
 
 /// Plays the first so many events at the book of the trial, before its first entry, and counts the replies.
-fn count_replies(book: &mut Book, clients: &[Client], events: u32) -> Counts
+fn count_replies(book: &mut Book, requests: &[Request], events: u32) -> Counts
     requires book { book.old ≡ record { sets = bench_sets; parties = 16; state = opening; grants = 0 } }
-    requires clients { clients.now ≡ clients_below 16 }
+    requires requests { requests.now ≡ requests_below 64 }
     requires few { events ≤ 1000000 }
     ensures counts { result ≡ counts_of (replies_of events) }
     ensures total { total_of result ≡ events }
 {
     let mut counts = Counts::default();
     for event in 0..events {
-        let request = request_of(clients, event);
-        let (reply, _) = book.step(&request, moment_of(event));
+        let request = request_of(requests, event);
+        let (reply, _) = book.step(request, moment_of(event));
         counts.count(&reply);
     }
     counts
@@ -50,7 +50,7 @@ pub fn replay_events(alloc: Global, events: u32) -> Result<Counts, NoMemory>
     ensures run { IsRun bench_sets (run_of events) }
 {
     tell_run(events);
-    let clients = all_clients(alloc)?;
+    let requests = all_requests(alloc)?;
     let mut book = trial_book(alloc)?;
-    Ok(count_replies(&mut book, clients.as_slice(), events))
+    Ok(count_replies(&mut book, requests.as_slice(), events))
 }

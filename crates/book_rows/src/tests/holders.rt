@@ -64,7 +64,7 @@ fn answer(rt: &impl Abort, seats: &mut SeatRows, client: &Client, call: Call) {
                 beat,
                 told,
             });
-            assert_eq!(rt; seats.get(party), wanted);
+            assert_eq!(rt; seats.get(party).copied(), wanted);
         }
         Call::LetOneGo(over, party) => {
             assert_eq!(rt; seats.let_one_go(over).map(|h| h.party), party);

@@ -5,7 +5,7 @@ use Rattle.options_machine.specs.Rules.{Rules}
 use Rattle.options_machine.specs.State.{State, is_holder}
 use Rattle.options_machine.specs.Step.{holders_anew}
 use Rattle.seat_rows.specs.Seats.{SeatList, charged_if}
-use Rattle.seat_counters.specs.Counts.{CounterList, Counts, counts_with}
+use Rattle.seat_counters.specs.Counts.{CounterList, counts_with}
 use Rattle.seat_book.specs.Charges.{AreAnewBelow, counts_in}
 use Rattle.seat_book.specs.Parts.{HasSameRoom, state_of}
 use Rattle.seat_book.specs.declared.parts.Parts.{Parts}
@@ -29,10 +29,10 @@ loop-party-preserved c =
     let r : Rules = c.args.rules.now in
     let old : List Holder = c.args.parts.now.seats.holders in
     let p : Parts = c.loop-party.parts in
-    elim c.match-get.branch [
+    elim c.match-copied.branch [
       | in-None w ↦ record {
         anew = subst (λ (x : Parts). AreAnewBelow r (c.loop-party.party + 1) old x.seats.holders x.counters.counts) (sym w.parts-is)
-            (anew_past r c.loop-party.party old p.seats.holders p.counters.counts c.loop-party.invariant.anew (sym w.in-None.ensures.seat));
+            (anew_past r c.loop-party.party old p.seats.holders p.counters.counts c.loop-party.invariant.anew (sym (w.in-None.ensures ∙ c.get.ensures.seat)));
         state = subst (λ (x : Parts). state_of x ≡ record (state_of c.args.parts.now) { holders = x.seats.holders }) (sym w.parts-is) c.loop-party.invariant.state;
         room = subst (HasSameRoom c.args.parts.now) (sym w.parts-is) c.loop-party.invariant.room;
       }
@@ -40,7 +40,7 @@ loop-party-preserved c =
           let h : Holder = w.in-Some.holder in
           let charge : Charge = w.next_charge-charge.result in
           let next : AreAnewBelow r (c.loop-party.party + 1) old (map (λ (x : Holder). charged_if (is_holder c.loop-party.party x) charge x) p.seats.holders) (counts_with r h.client charge p.counters.counts)
-          = anew_next r c.loop-party.party old p.seats.holders p.counters.counts h charge c.loop-party.invariant.anew w.in-Some.ensures.kept.in_order (sym w.in-Some.ensures.seat) w.next_charge-charge.ensures in
+          = anew_next r c.loop-party.party old p.seats.holders p.counters.counts h charge c.loop-party.invariant.anew c.get.ensures.kept.in_order (sym (w.in-Some.ensures ∙ c.get.ensures.seat)) w.next_charge-charge.ensures in
           let counted : AreAnewBelow r (c.loop-party.party + 1) old (map (λ (x : Holder). charged_if (is_holder c.loop-party.party x) charge x) p.seats.holders) w.raise.new.self.counts
           = subst (λ (k : CounterList). AreAnewBelow r (c.loop-party.party + 1) old (map (λ (x : Holder). charged_if (is_holder c.loop-party.party x) charge x) p.seats.holders) k.counts) (sym w.raise.ensures) next in
           let seated : AreAnewBelow r (c.loop-party.party + 1) old w.set_charge.new.self.holders w.raise.new.self.counts

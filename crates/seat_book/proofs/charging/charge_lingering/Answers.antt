@@ -1,4 +1,4 @@
-use Rattle.std.proofs.Common.{◌≡◌, ℕ, ◌+◌, ◌<◌, ◌≤◌, ◌^◌, List, Option, Some, length, refl, ap, sym, subst, ◌∙◌, arith}
+use Rattle.std.proofs.Common.{◌≡◌, ◌+◌, ◌<◌, List, Option, Some, length, ap, sym, subst, ◌∙◌, arith}
 use Rattle.std.specs.Prelude.{IfSome, slice_get, slice_set}
 use Rattle.options_machine.specs.declared.reply.Charge.{Charge}
 use Rattle.options_machine.specs.declared.rows.Holder.{Holder}
@@ -8,7 +8,6 @@ use Rattle.options_machine.specs.State.{State}
 use Rattle.linger_table.specs.Table.{LingeringList}
 use Rattle.seat_counters.specs.Counts.{CounterList, counts_with}
 use Rattle.seat_book.specs.Charges.{AreAnewUpTo}
-use Rattle.seat_book.specs.Parts.{state_of}
 use Rattle.seat_book.specs.declared.parts.Parts.{Parts}
 use Rattle.seat_book.proofs.Anew.{linger_next, linger_small}
 use Rattle.seat_book.proofs.charging.charge_lingering.Goals as goal

@@ -13,6 +13,6 @@ returns-clause-counted c =
     let r : Rules = c.args.rules.now in
     let s : State = state_of c.args.parts.now in
     ap (λ (x : CounterList). x.counts) c.lower.ensures
-    ∙ ap (counts_without r c.in-Some.holder.client c.in-Some.holder.charge) c.requires.counted
-    ∙ sym (counts_of-without_holder r s c.args.party c.in-Some.holder (sym c.in-Some.ensures.seat) (single c.args.parts.now.seats c.args.party c.in-Some.ensures.kept))
+    ∙ ap (counts_without r c.in-Some.holder.now.client c.in-Some.holder.now.charge) c.requires.counted
+    ∙ sym (counts_of-without_holder r s c.args.party c.in-Some.holder.now (sym c.in-Some.ensures.seat) (single c.args.parts.now.seats c.args.party c.in-Some.ensures.kept))
     ∙ ap (λ (x : SeatList). counts_of r (record s { holders = x.holders })) (sym c.take.ensures)
