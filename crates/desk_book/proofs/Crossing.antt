@@ -6,6 +6,7 @@ use Rattle.std.proofs.Crossing.{crosses, Vec-send}
 use Rattle.linger_clock.proofs.tree.Tree.TheLaws.TheKnot as tree
 use Rattle.linger_clock.specs.contracts.Clock as Clock
 use Rattle.linger_table.specs.contracts.table.LingerTable as LingerTable
+use Rattle.seat_rows.specs.contracts.beats.Beats as Beats
 use Rattle.seat_rows.specs.contracts.SeatRows as SeatRows
 use Rattle.seat_counters.proofs.tally.Counters.TheSendSync as counters
 use Rattle.policy.proofs.rules.DeskRules.TheSendSync as rules
@@ -25,8 +26,11 @@ use Rattle.desk_book.specs.contracts.book.DeskBookKept.TheImpl.{ghosts}
 clock_send : IsSend Clock.the_row
 clock_send = search (sendable, crosses, tree.crosses) depth 40
 
+beats_send : IsSend Beats.the_row
+beats_send = search (clock_send, sendable, crosses) depth 40
+
 rows_send : IsSend SeatRows.the_row
-rows_send = search (clock_send, sendable, crosses) depth 40
+rows_send = search (beats_send, sendable, crosses) depth 40
 
 table_send : IsSend LingerTable.the_row
 table_send = search (clock_send, sendable, crosses) depth 40
