@@ -1,8 +1,9 @@
 -- The same deadlines twice, by their moments and by their owners, through a new one and through one that goes.
-use Rattle.std.proofs.Common.{◌≡◌, ℕ, ◌+◌, ◌≤◌, Bool, true, false, true≢false, cond, not, ◌&&◌, eqb, List, [], ◌∷◌, Option, Some, None, length, slice_get, filter, find, IsNone, IsSome, IsTrue, refl, sym, ap, ◌∙◌, subst, arith}
+use Rattle.std.proofs.Common.{◌≡◌, ℕ, ◌+◌, ◌<◌, ◌≤◌, Bool, true, false, true≢false, cond, not, ◌&&◌, eqb, List, [], ◌∷◌, Option, Some, None, length, slice_get, filter, find, IsNone, IsSome, IsTrue, refl, sym, ap, ◌∙◌, arith}
 use Rattle.std.specs.Option.{option_map}
+use Rattle.std.specs.List.{All}
 use Rattle.std.proofs.lemmas.Bool.Decides.{nat_tests}
-use Rattle.std.proofs.lemmas.List.Elements.{filter_agree}
+use Rattle.std.proofs.lemmas.List.Elements.{filter_agree, All-cons, All-head, All-tail, All-weaker, All-filter}
 use Rattle.linger_clock.specs.declared.Deadline.{Deadline}
 use Rattle.linger_clock.specs.declared.tree.Order.{Order}
 use Rattle.linger_clock.specs.declared.tree.Order.TheVariants.{ByMoment, ByOwner}
@@ -142,16 +143,24 @@ pub length-without : (owner : ℕ) (ds : List Deadline) → HasDistinctOwners ds
 length-without owner [] s h = absurd (true≢false (sym h))
 length-without owner (d ∷ ds) s h = grind (arith, nat_tests, s.0, length_absent owner ds, length-without owner ds s.1)
 
+-- what holds of a new deadline and of all others holds of all
+All-ranked_in : (o : Order) (P : Deadline → Type 0) (d : Deadline) (ds : List Deadline) → P d → All P ds → All P (ranked_in o d ds)
+All-ranked_in o P d [] h a = All-cons P d [] h a
+All-ranked_in o P d (e ∷ es) h a = elim (comes_before o d e) as (λ b. All P (cond b (d ∷ e ∷ es) (e ∷ ranked_in o d es))) [
+  | true ↦ All-cons P d (e ∷ es) h a
+  | false ↦ All-cons P e (ranked_in o d es) (All-head P e es a) (All-ranked_in o P d es h (All-tail P e es a))
+]
+
 -- an owner that neither has gets a deadline in both
-pub added_moment : (room : ℕ) (d : Deadline) (ds os : List Deadline) {spare capacity : ℕ} → IsKept room ds os spare capacity → IsNone (until_of d.owner ds) → ranked_in ByMoment d ds ≡ with_deadline d ds
+pub added_moment : (room : ℕ) (d : Deadline) (ds os : List Deadline) {earliest spare capacity : ℕ} → IsKept room earliest ds os spare capacity → IsNone (until_of d.owner ds) → ranked_in ByMoment d ds ≡ with_deadline d ds
 added_moment room d ds os k h = ranked_in-put d ds ∙ sym (placed-put d ds k.sound.in_order h)
 
 none_found : (r : Option Deadline) → IsNone (option_map (λ d. d.until) r) → r ≡ None
 none_found None h = refl
 none_found (Some x) h = absurd (true≢false h)
 
-pub kept_added : (room : ℕ) (d : Deadline) (ds os : List Deadline) (spare left capacity larger : ℕ) → IsKept room ds os spare capacity → IsNone (until_of d.owner ds) → left + 2 ≡ spare → capacity ≤ larger → IsKept room (ranked_in ByMoment d ds) (ranked_in ByOwner d os) left larger
-kept_added room d ds os spare left capacity larger k h two grows =
+pub kept_added : (room earliest sooner : ℕ) (d : Deadline) (ds os : List Deadline) (spare left capacity larger : ℕ) → IsKept room earliest ds os spare capacity → IsNone (until_of d.owner ds) → left + 2 ≡ spare → capacity ≤ larger → sooner ≤ earliest → sooner ≤ d.until → IsKept room sooner (ranked_in ByMoment d ds) (ranked_in ByOwner d os) left larger
+kept_added room earliest sooner d ds os spare left capacity larger k h two grows below_all below_new =
     let absent : IsNone (until_of d.owner os) = rw (k.same d.owner) h in
     let alone = find_owner d os ∙ none_found (find (is_of d.owner) os) absent in
     record {
@@ -161,14 +170,15 @@ kept_added room d ds os spare left capacity larger k h two grows =
       as_many = length-ranked_in ByOwner d os ∙ ap (λ n. n + 1) k.as_many ∙ sym (length-ranked_in ByMoment d ds);
       spare_left = omega (arith, k.spare_left, length-ranked_in ByMoment d ds);
       roomy = omega (arith, k.roomy);
+      not_earlier = All-ranked_in ByMoment (λ e. sooner ≤ e.until) d ds below_new (All-weaker (λ e. earliest ≤ e.until) (λ e. sooner ≤ e.until) (λ e h. omega (arith, h, below_all)) ds k.not_earlier);
     }
 
 -- one that waits goes from both
-pub removed_moment : (room : ℕ) (d : Deadline) (ds os : List Deadline) {spare capacity : ℕ} → IsKept room ds os spare capacity → until_of d.owner ds ≡ Some d.until → filter (λ e. not (ties ByMoment d e)) ds ≡ without d.owner ds
+pub removed_moment : (room : ℕ) (d : Deadline) (ds os : List Deadline) {earliest spare capacity : ℕ} → IsKept room earliest ds os spare capacity → until_of d.owner ds ≡ Some d.until → filter (λ e. not (ties ByMoment d e)) ds ≡ without d.owner ds
 removed_moment room d ds os k h = taken_moment d ds k.sound.distinct h
 
-pub kept_removed : (room : ℕ) (d : Deadline) (ds os : List Deadline) (spare left capacity larger : ℕ) → IsKept room ds os spare capacity → until_of d.owner ds ≡ Some d.until → left ≡ spare + 2 → capacity ≤ larger → IsKept room (filter (λ e. not (ties ByMoment d e)) ds) (filter (λ e. not (ties ByOwner d e)) os) left larger
-kept_removed room d ds os spare left capacity larger k h two grows =
+pub kept_removed : (room earliest : ℕ) (d : Deadline) (ds os : List Deadline) (spare left capacity larger : ℕ) → IsKept room earliest ds os spare capacity → until_of d.owner ds ≡ Some d.until → left ≡ spare + 2 → capacity ≤ larger → IsKept room earliest (filter (λ e. not (ties ByMoment d e)) ds) (filter (λ e. not (ties ByOwner d e)) os) left larger
+kept_removed room earliest d ds os spare left capacity larger k h two grows =
     let in_owners = k.same d.owner ∙ h in
     let shorter = length-without d.owner ds k.sound.distinct (rw h refl) in
     let shorter_owners = length-without d.owner os (distinct_ranked os k.ranked) (rw in_owners refl) in
@@ -179,24 +189,30 @@ kept_removed room d ds os spare left capacity larger k h two grows =
       as_many = omega (arith, k.as_many);
       spare_left = omega (arith, k.spare_left);
       roomy = omega (arith, k.roomy);
+      not_earlier = All-filter (λ e. not (is_of d.owner e)) (λ e. earliest ≤ e.until) ds k.not_earlier;
     })
 
--- the first waits
-pub first_waits : (ds : List Deadline) (d : Deadline) → slice_get ds 0 ≡ Some d → until_of d.owner ds ≡ Some d.until
-first_waits [] d h = absurd (cc)
-first_waits (e ∷ es) d h =
-    let same : e ≡ d = cc in
-    subst (λ (x : Deadline). until_of x.owner (e ∷ es) ≡ Some x.until) same (let own : is_of e.owner e ≡ true = grind (arith, nat_tests) in rw own refl)
-
--- and is the first that is due, where any is
-pub first_due : (now : ℕ) (ds : List Deadline) (d : Deadline) → slice_get ds 0 ≡ Some d → d.until ≤ now → find (is_due now) ds ≡ Some d
-first_due now [] d h le = absurd (cc)
-first_due now (e ∷ es) d h le =
-    let same : e ≡ d = cc in
-    let due : is_due now e ≡ true = rw same (grind (arith, nat_tests)) in
-    rw due (ap (λ x. Some x) same)
+-- a clock may know another moment before which none falls due
+pub kept_later : {room earliest spare capacity : ℕ} {ds os : List Deadline} (later : ℕ) → IsKept room earliest ds os spare capacity → All (λ d. later ≤ d.until) ds → IsKept room later ds os spare capacity
+kept_later later k none_before = record {
+  sound = k.sound;
+  ranked = k.ranked;
+  same = k.same;
+  as_many = k.as_many;
+  spare_left = k.spare_left;
+  roomy = k.roomy;
+  not_earlier = none_before;
+}
 
 -- of no deadlines none is found
 pub none_first : (p : Deadline → Bool) (ds : List Deadline) → slice_get ds 0 ≡ None → find p ds ≡ None
 none_first p [] h = refl
 none_first p (e ∷ es) h = absurd (cc)
+
+-- before a moment before which none falls due, none has come
+pub none_before : (now earliest : ℕ) (ds : List Deadline) → All (λ d. earliest ≤ d.until) ds → now < earliest → find (is_due now) ds ≡ None
+none_before now earliest [] a h = refl
+none_before now earliest (d ∷ ds) a h =
+    let later = All-head (λ e. earliest ≤ e.until) d ds a in
+    let not_due : is_due now d ≡ false = grind (arith, nat_tests) in
+    rw not_due (none_before now earliest ds (All-tail (λ e. earliest ≤ e.until) d ds a) h)

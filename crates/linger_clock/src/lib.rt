@@ -43,6 +43,9 @@ pub enum ClockFault {
 #[derive(Drop)]
 pub struct Clock {
     room: u32,
+    /// No deadline falls due before this moment. It may be earlier than the first one's: where that one is taken out,
+    /// it stays until `settle` looks again.
+    earliest: u64,
     by_moment: Tree,
     by_owner: Tree,
     spare: Vec<Spare>,
@@ -57,7 +60,8 @@ impl Model for Clock {
 
     ghost view = { λ c. record { room = c.room; pairs = c.by_moment.0 } };
 
-    ghost invariant = { λ c. IsKept c.room c.by_moment.0 c.by_owner.0 (vec_len c.spare) (vec_capacity c.spare) };
+    ghost invariant = { λ c.
+        IsKept c.room c.earliest c.by_moment.0 c.by_owner.0 (vec_len c.spare) (vec_capacity c.spare) };
 }
 
 impl Clock {
@@ -70,6 +74,7 @@ impl Clock {
         let spare = spares(alloc, 2 * room as usize)?;
         Ok(Clock {
             room,
+            earliest: u64::MAX,
             by_moment: Tree::new(),
             by_owner: Tree::new(),
             spare,
@@ -121,15 +126,23 @@ impl Clock {
     }
 
     /// Takes out the first deadline in order that has come at the moment `now`, in seconds since 1970-01-01 UTC, and
-    /// gives its owner; `None` where none has come, and then nothing has changed.
+    /// gives its owner; `None` where none has come, and then nothing has changed. The clock keeps a moment before which
+    /// none falls due, and a call before it looks at no deadline.
     pub fn settle(&mut self, now: u64) -> Option<u64>
         ensures first { result ≡ option_map (λ d. d.owner) (find (is_due now) self.old.pairs) }
         ensures taken { IfSome result (λ owner. self.new ≡ record self.old { pairs = without owner self.old.pairs }) }
         ensures none { IfNone result (self.new ≡ self.old) }
         ensures kept { IsClock self.new }
     {
-        let first = self.by_moment.first()?;
+        if now < self.earliest {
+            return None;
+        }
+        let Some(first) = self.by_moment.first() else {
+            self.earliest = u64::MAX;
+            return None;
+        };
         if now < first.until {
+            self.earliest = first.until;
             return None;
         }
         self.take_out(first);
@@ -158,6 +171,7 @@ impl Clock {
         let (Some(first), Some(second)) = (self.spare.pop(), self.spare.pop()) else {
             unreachable!()
         };
+        self.earliest = self.earliest.min(deadline.until);
         self.by_moment.insert(Order::ByMoment, deadline, first);
         self.by_owner.insert(Order::ByOwner, deadline, second);
     }

@@ -88,6 +88,27 @@ fn refusals_removals_and_the_ends_of_time(rt: HostRuntime) -> Result<(), Fail> {
 }
 
 #[test]
+fn the_first_deadline_is_found_after_each_change(rt: HostRuntime) -> Result<(), Fail> {
+    let mut clock = Clock::make(rt.alloc(), 2)?;
+    let calls = [
+        Call::Add(1, 50, Ok(())),
+        Call::Settle(40, None),
+        // An earlier one comes when the clock has been asked before.
+        Call::Add(2, 40, Ok(())),
+        Call::Settle(39, None),
+        Call::Settle(40, Some(2)),
+        Call::Settle(49, None),
+        // The first one goes, and a later one comes.
+        Call::Remove(1, Some(50)),
+        Call::Add(2, 60, Ok(())),
+        Call::Settle(50, None),
+        Call::Settle(60, Some(2)),
+    ];
+    answers(&rt, &mut clock, &calls);
+    Ok(())
+}
+
+#[test]
 fn no_room_takes_no_deadline(rt: HostRuntime) -> Result<(), Fail> {
     let mut clock = Clock::make(rt.alloc(), 0)?;
     let calls = [

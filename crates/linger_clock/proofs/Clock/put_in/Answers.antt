@@ -5,12 +5,12 @@ use Rattle.linger_clock.proofs.Keeping.{kept_added, added_moment, ranked_in-put}
 use Rattle.linger_clock.proofs.Pairs.{there-put, others-put}
 use Rattle.linger_clock.proofs.Clock.put_in.Goals as goal
 
-kept : (c : goal.After-insert-2) → IsKept c.self.inside.room c.insert.new.self.0 c.insert-2.new.self.0 (vec_len c.pop-2.new.self) (vec_capacity c.pop-2.new.self)
+kept : (c : goal.After-insert-2) → IsKept c.self.inside.room c.min-self-inside.result c.insert.new.self.0 c.insert-2.new.self.0 (vec_len c.pop-2.new.self) (vec_capacity c.pop-2.new.self)
 kept c =
     let absent : IsNone (until_of c.args.deadline.owner c.self.inside.by_moment.0) = rw (← c.self.view_is) at c.requires.absent in
     let two : vec_len c.pop-2.new.self + 2 ≡ vec_len c.self.inside.spare = grind arith in
     rw (c.insert.ensures.content, c.insert-2.ensures.content)
-    (kept_added c.self.inside.room c.args.deadline c.self.inside.by_moment.0 c.self.inside.by_owner.0 (vec_len c.self.inside.spare) (vec_len c.pop-2.new.self) (vec_capacity c.self.inside.spare) (vec_capacity c.pop-2.new.self) c.self.invariant absent two (omega arith))
+    (kept_added c.self.inside.room c.self.inside.earliest c.min-self-inside.result c.args.deadline c.self.inside.by_moment.0 c.self.inside.by_owner.0 (vec_len c.self.inside.spare) (vec_len c.pop-2.new.self) (vec_capacity c.self.inside.spare) (vec_capacity c.pop-2.new.self) c.self.invariant absent two (omega arith) (omega arith) (omega arith))
 
 pub invariant_of-self : goal.invariant_of-self
 invariant_of-self c = kept c
