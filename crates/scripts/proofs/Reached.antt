@@ -1,5 +1,5 @@
 -- Where a script stands while it is played, or entered for its report.
-use Rattle.std.proofs.Common.{◌≡◌, ℕ, suc, ◌+◌, ◌-◌, ◌<◌, ◌^◌, true, ◌&&◌, List, [], ◌∷◌, ◌++◌, length, map, drop, get_or, take, Ok, Err, refl, sym, ap, ◌∙◌, add-one, ltb, subst, Option}
+use Rattle.std.proofs.Common.{◌≡◌, ℕ, suc, ◌+◌, ◌-◌, ◌<◌, ◌^◌, true, ◌&&◌, List, [], ◌∷◌, ◌++◌, length, map, drop, get_or, take, Ok, Err, refl, sym, ap, ◌∙◌, add-one, append_assoc, ltb, subst, Option, Result}
 use Rattle.std.proofs.Math.Seq.{drop-cons}
 use Rattle.std.proofs.lemmas.Bool.{ltb-true}
 use Rattle.std.specs.List.{list_all}
@@ -27,7 +27,7 @@ use Rattle.scripts.proofs.Follows.{answered_same, are_ready, follow_on, runs_ope
 use Rattle.scripts.proofs.GoingOn.{opened_pools, same_pools}
 use Rattle.scripts.proofs.Steps.{one_of_all}
 use Rattle.scripts.proofs.Walks.{same_map}
-use Rattle.scripts.proofs.Writes.{all_left, left_more, left_over}
+use Rattle.scripts.proofs.Writes.{all_left, left_more, left_over, left_same, wrote_rest}
 
 -- the line at a place, and those behind it
 pub next_line : (lines : List ScriptLine) (i : ℕ) (line : ScriptLine) → i < length lines → line ≡ get_or lines i line → drop i lines ≡ line ∷ drop (i + 1) lines
@@ -70,7 +70,7 @@ pools_then {sets} {lines} {pools} {rs} k = same_map (IsRunOf sets lines) (λ (r 
 
 -- a script that begins
 pub begins : {S : Type 0} (held : S → Option (List ℕ)) (faults : S → ℕ) (files : List OptionsFile) (pools : List Pool) (rs : List PoolRun) (lines : List ScriptLine) (now : S) → rs ≡ map (run_of files) pools
-    → IsPlayed held faults (length files) 0 pools rs lines now now (output_of pools files lines)
+    → IsPlayed held faults (length files) 0 pools rs lines now now [] (output_of pools files lines)
 begins held faults files pools rs lines now is = record { reached = reached_first files pools rs is; text = all_left now (output_of pools files lines) }
 
 -- the text that is left begins with the line's own
@@ -83,18 +83,38 @@ left_now files {lines} {pools} {rs} line rest within next answer is k =
     (sym (is ∙ answered_same (length files) lines line within rs k.ledgers k.follow))
 
 module _ {S : Type 0} {held : S → Option (List ℕ)} {faults : S → ℕ} (files : List OptionsFile) {pools : List Pool} {lines : ℕ} {rs : List PoolRun} (line : ScriptLine) {left : List ScriptLine} (rest : List ScriptLine)
-    {old now new : S} {whole : List ℕ} (within : line.party < 256) (next : left ≡ line ∷ rest) (answer : Answer) (is : answer ≡ line_answer run_walk (length files) rs line)
-    (k : IsPlayed held faults (length files) lines pools rs left old now whole) where
-  -- a line more was played
-  pub played_more : {u : Unit {0}} → Wrote held faults now new (answer_text answer) (Ok u) → IsPlayed held faults (length files) (lines + 1) pools (after_line run_walk (length files) rs line) rest old new whole
-  played_more w = record {
-    reached = reached_more files pools lines rs line within k.reached;
-    text = left_more (answer_text answer) (output_from ledger_walk (length files) (after_line ledger_walk (length files) k.reached.ledgers line) rest) k.text (left_now files line rest within next answer is k.reached) w;
-  }
+    {old now : S} {gathered whole : List ℕ} (within : line.party < 256) (next : left ≡ line ∷ rest) (answer : Answer) (is : answer ≡ line_answer run_walk (length files) rs line)
+    (k : IsPlayed held faults (length files) lines pools rs left old now gathered whole) where
+  -- a line more was played, and its output line gathered
+  pub played_more : {more : List ℕ} → more ≡ gathered ++ answer_text answer → IsPlayed held faults (length files) (lines + 1) pools (after_line run_walk (length files) rs line) rest old now more whole
+  played_more {more} e =
+      let after_it : List ℕ = output_from ledger_walk (length files) (after_line ledger_walk (length files) k.reached.ledgers line) rest in
+      record {
+        reached = reached_more files pools lines rs line within k.reached;
+        text = left_same
+            (ap (λ (t : List ℕ). gathered ++ t) (left_now files line rest within next answer is k.reached)
+            ∙ sym (append_assoc gathered (answer_text answer) after_it)
+            ∙ ap (λ (t : List ℕ). t ++ after_it) (sym e))
+            k.text;
+      }
 
-  -- the writing of its output line failed
-  pub played_front : {e : WriteFailed} (fault : WriteFailed) → Wrote held faults now new (answer_text answer) (Err e) → Wrote held faults old new whole (Err fault)
-  played_front fault w = left_over (answer_text answer) (output_from ledger_walk (length files) (after_line ledger_walk (length files) k.reached.ledgers line) rest) fault k.text (left_now files line rest within next answer is k.reached) w
+module _ {S : Type 0} {held : S → Option (List ℕ)} {faults : S → ℕ} {sets lines : ℕ} {pools : List Pool} {rs : List PoolRun} {left : List ScriptLine} {old now new : S} {gathered whole : List ℕ}
+    (k : IsPlayed held faults sets lines pools rs left old now gathered whole) where
+  -- some of what was gathered was written
+  pub played_written : {more : List ℕ} {u : Unit {0}} (written : List ℕ) → gathered ≡ written ++ more → Wrote held faults now new written (Ok u) → IsPlayed held faults sets lines pools rs left old new more whole
+  played_written {more} written e w =
+      let rest : List ℕ = output_from ledger_walk sets k.reached.ledgers left in
+      record { reached = k.reached; text = left_more written (more ++ rest) k.text (ap (λ (t : List ℕ). t ++ rest) e ∙ append_assoc written more rest) w }
+
+  -- writing it failed
+  pub played_front : {e : WriteFailed} (written more : List ℕ) (fault : WriteFailed) → gathered ≡ written ++ more → Wrote held faults now new written (Err e) → Wrote held faults old new whole (Err fault)
+  played_front written more fault e w =
+      let rest : List ℕ = output_from ledger_walk sets k.reached.ledgers left in
+      left_over written (more ++ rest) fault k.text (ap (λ (t : List ℕ). t ++ rest) e ∙ append_assoc written more rest) w
+
+  -- where no line is left, all that was gathered is written
+  pub played_all : (result : Result (Unit {0}) WriteFailed) → left ≡ [] → Wrote held faults now new gathered result → Wrote held faults old new whole result
+  played_all result none w = wrote_rest result k.text (ap (λ (ls : List ScriptLine). gathered ++ output_from ledger_walk sets k.reached.ledgers ls) none) w
 
 -- Entering the lines for a report.
 

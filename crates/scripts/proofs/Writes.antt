@@ -1,4 +1,4 @@
-use Rattle.std.proofs.Common.{◌≡◌, ℕ, List, [], ◌++◌, Option, Ok, Err, refl, sym, ap, ◌∙◌, append_assoc, arith}
+use Rattle.std.proofs.Common.{◌≡◌, ℕ, List, [], ◌++◌, Option, Ok, Err, refl, sym, ap, ◌∙◌, append_assoc, append-nil, arith, Result}
 use Rattle.outside.specs.Told.{Wrote, held_after}
 use Rattle.outside.specs.declared.sink.WriteFailed.{WriteFailed}
 use Rattle.outside.proofs.Told.{front_within, told_none, told_twice}
@@ -27,3 +27,20 @@ module _ {S : Type 0} {held : S → Option (List ℕ)} {faults : S → ℕ} wher
     steady = tt;
     later = omega (arith, k.steady, w.later);
   }
+
+  -- the same text is left
+  pub left_same : {old now : S} {left other whole : List ℕ} → left ≡ other → IsLeft held faults old now left whole → IsLeft held faults old now other whole
+  left_same e k = record { done = k.done; written = k.written; all = ap (λ (l : List ℕ). k.done ++ l) (sym e) ∙ k.all; steady = k.steady }
+
+  -- the writing of all that is left ends as that of the whole
+  pub wrote_rest : {old now new : S} {left whole : List ℕ} {piece : List ℕ} (result : Result (Unit {0}) WriteFailed) → IsLeft held faults old now left whole → left ≡ piece ++ [] → Wrote held faults now new piece result → Wrote held faults old new whole result
+  wrote_rest {piece = piece} (Ok u) k e w =
+      let done : IsLeft held faults _ _ [] _ = left_more piece [] k e w in
+      record {
+        ok = done.written ∙ ap (held_after (held _)) (sym (append-nil done.done) ∙ done.all);
+        err = tt;
+        failed = tt;
+        steady = done.steady;
+        later = omega (arith, done.steady);
+      }
+  wrote_rest {piece = piece} (Err fault) k e w = left_over piece [] fault k e w

@@ -1,4 +1,5 @@
 pub mod Answers
+pub mod Gathered
 pub mod Laws
 pub mod Ledgers
 pub mod Played

@@ -1,5 +1,5 @@
 -- Where a script stands while it is played.
-use Rattle.std.specs.Prelude.{◌≡◌, ℕ, ◌≤◌, ◌<◌, false, ◌||◌, List, length, get_or, map, Option}
+use Rattle.std.specs.Prelude.{◌≡◌, ℕ, ◌≤◌, ◌<◌, false, ◌||◌, List, ◌++◌, length, get_or, map, Option}
 use Rattle.std.specs.List.{AllZip}
 use Rattle.lic_types.specs.declared.limits.TheConstants.{MOMENT_END, PARTY_LIMIT}
 use Rattle.feature_lines.specs.declared.pool.Pool.{Pool}
@@ -35,7 +35,7 @@ pub record IsReached (sets lines : ℕ) (pools : List Pool) (runs : List PoolRun
   pub pooled : map (λ (l : Ledger). l.pool) ledgers ≡ pools
   pub follow : AreRunsOf sets lines runs ledgers
 
--- and what is left to write
-pub record IsPlayed {S : Type 0} (held : S → Option (List ℕ)) (faults : S → ℕ) (sets lines : ℕ) (pools : List Pool) (runs : List PoolRun) (left : List ScriptLine) (old now : S) (whole : List ℕ) : Type 0 where
+-- and what is left to write: what was gathered, and the output lines of the lines that are left
+pub record IsPlayed {S : Type 0} (held : S → Option (List ℕ)) (faults : S → ℕ) (sets lines : ℕ) (pools : List Pool) (runs : List PoolRun) (left : List ScriptLine) (old now : S) (gathered whole : List ℕ) : Type 0 where
   pub reached : IsReached sets lines pools runs
-  pub text : IsLeft held faults old now (output_from ledger_walk sets reached.ledgers left) whole
+  pub text : IsLeft held faults old now (gathered ++ output_from ledger_walk sets reached.ledgers left) whole

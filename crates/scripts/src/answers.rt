@@ -1,11 +1,9 @@
 ghost use Rattle.std.specs.Prelude.{◌≡◌, ◌≤◌, ◌++◌, ◌∷◌, [], codes, decimal, length, take};
 ghost use Rattle.lic_types.specs.Days.{day_text};
-ghost use Rattle.outside.specs.Told.{Wrote};
 ghost use Rattle.scripts.specs.Answers.{answer_text, reply_line};
 
 use lic_types::Day;
 use options_machine::Reply;
-use outside::{Sink, WriteFailed};
 use reply_words::{put, put_number, put_reply};
 
 /// What a script line is answered.
@@ -59,7 +57,7 @@ fn put_number_line(word: &[u8], number: u32, room: &mut [u8; 256]) -> usize
 }
 
 /// Writes the output line of an answer into a room, and gives how many bytes it takes.
-fn put_answer(answer: &Answer, room: &mut [u8; 256]) -> usize
+pub(crate) fn put_answer(answer: &Answer, room: &mut [u8; 256]) -> usize
     ensures place { result ≤ 256 }
     ensures written { take result room.new ≡ answer_text answer.now }
 {
@@ -70,13 +68,4 @@ fn put_answer(answer: &Answer, room: &mut [u8; 256]) -> usize
         Answer::Reread(set) => put_number_line(b"REREAD ", *set, room),
         Answer::NoRules(set) => put_number_line(b"NORULES ", *set, room),
     }
-}
-
-/// Writes the output line of an answer to a sink.
-pub(crate) fn write_answer<O: Sink>(out: &mut O, answer: &Answer) -> Result<(), WriteFailed>
-    ensures { Wrote O.held O.faults out.old out.new (answer_text answer.now) result }
-{
-    let mut room = [0u8; 256];
-    let len = put_answer(answer, &mut room);
-    out.write(&room[..len])
 }

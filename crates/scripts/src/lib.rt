@@ -3,6 +3,7 @@
 
 mod answers;
 mod fault;
+mod gathered;
 mod histories;
 mod laws;
 mod making;

@@ -1,17 +1,19 @@
-ghost use Rattle.std.specs.Prelude.{◌≡◌, ◌≢◌, ◌≤◌, ◌<◌, Err, None, OnOk, Some, length, map, true};
+ghost use Rattle.std.specs.Prelude.{◌≡◌, ◌≢◌, ◌≤◌, ◌<◌, ◌+◌, ◌++◌, ℕ, List, [], Err, None, OnOk, Some, length, map, true};
 ghost use Rattle.std.specs.List.{list_all};
 ghost use Rattle.lic_types.specs.declared.limits.TheConstants.{PARTY_LIMIT};
 ghost use Rattle.options_machine.specs.Run.{IsBelow};
 ghost use Rattle.options_machine.specs.Step.{set_asked};
 ghost use Rattle.outside.specs.Told.{HasRisen, TakesPrefix, Wrote, held_after};
 ghost use Rattle.script_text.specs.Fits.{is_fit};
+ghost use Rattle.scripts.specs.declared.gathered.TheConstants.{GATHER_LIMIT};
 ghost use Rattle.scripts.specs.Laws.{Histories};
 ghost use Rattle.scripts.specs.PoolRuns.{entered_at, is_ready, pools_of, run_of, run_walk};
 ghost use Rattle.scripts.specs.Script.{output_of};
 ghost use Rattle.scripts.specs.Walk.{after_asked, after_line, after_sent, asked_answer, line_answer, sent_answer, set_answer};
 
-use crate::answers::{Answer, write_answer};
+use crate::answers::Answer;
 use crate::fault::PlayFault;
+use crate::gathered::Gathered;
 use crate::histories::tell_histories;
 use crate::making::make_runs;
 use crate::pool_run::PoolRun;
@@ -99,23 +101,39 @@ pub(crate) fn answer_line(
     }
 }
 
-/// Plays the lines of a script at the pools of a licence, before any of them has an entry.
+/// Writes what was gathered, unless there is room for one line more.
+fn make_room<O: Sink>(gathered: &mut Gathered, out: &mut O) -> Result<(), WriteFailed>
+    ensures wrote { (written : List ℕ) × (gathered.old ≡ written ++ gathered.new) × Wrote O.held O.faults out.old out.new written result }
+    ensures room { OnOk result (length gathered.new + 256 ≤ GATHER_LIMIT) }
+{
+    if gathered.has_room() {
+        Ok(())
+    } else {
+        gathered.write(out)
+    }
+}
+
+/// Plays the lines of a script at the pools of a licence, before any of them has an entry. The output lines are
+/// gathered, so that few writes are made.
 fn play_lines<O: Sink>(
     licence: &Licence,
     options: &[Options],
     runs: &mut [PoolRun],
     lines: &[ScriptLine],
+    gathered: &mut Gathered,
     out: &mut O,
 ) -> Result<(), WriteFailed>
     requires fit { list_all is_fit lines.now ≡ true }
     requires opened { runs.old ≡ map (run_of options.now) licence.now.pools }
+    requires none { gathered.old ≡ [] }
     ensures { Wrote O.held O.faults out.old out.new (output_of licence.now.pools options.now lines.now) result }
 {
     for line in lines {
         let answer = answer_line(licence, options.len(), runs, line);
-        write_answer(out, &answer)?;
+        make_room(gathered, out)?;
+        gathered.add(&answer);
     }
-    Ok(())
+    gathered.write(out)
 }
 
 /// Plays a script on the pools of a licence, each with one rule set for each of the options files, and writes one
@@ -152,6 +170,14 @@ pub fn play<O: Sink>(
 {
     tell_histories(licence, options, lines);
     let mut runs = make_runs(alloc, licence.pools(), options)?;
-    play_lines(licence, options, runs.as_mut_slice(), lines, out)?;
+    let mut gathered = Gathered::make(alloc)?;
+    play_lines(
+        licence,
+        options,
+        runs.as_mut_slice(),
+        lines,
+        &mut gathered,
+        out,
+    )?;
     Ok(())
 }
