@@ -24,7 +24,7 @@ fn played(
     script: &[u8],
     failing: &[u64],
 ) -> Result<(Result<(), PlayFault>, MemSink), Fail> {
-    let mut sink = MemSink::make(alloc, 4096, failing.to_vec(alloc)?)?;
+    let mut sink = MemSink::make(alloc, 131_072, failing.to_vec(alloc)?)?;
     let options = read_files(alloc, files)?;
     if licence.len() >= 1 << 32
         || script.len() >= 1 << 32
@@ -138,13 +138,23 @@ fn other_rules_in_mid_run(rt: HostRuntime) -> Result<(), Fail> {
     Ok(())
 }
 
-/// The lines before the one whose write fails stay written.
+/// The output lines are written some thousands at a time. Those before the write that fails stay written.
 #[test]
 fn a_write_fails(rt: HostRuntime) -> Result<(), Fail> {
-    let script = b"0 0 ann h1 d1 p1 LOOK edit\n0 0 ann h1 d1 p1 REREAD 0\n";
     let licence = b"FEATURE edit acme 2.0 permanent 2\n";
-    let (ended, sink) = played(rt.alloc(), licence, &[b""], script, &[1])?;
+    let mut script = Vec::new(rt.alloc());
+    for _line in 0..8000 {
+        script.extend_from_slice(b"0 0 ann h1 d1 p1 REREAD 0\n")?;
+    }
+    let (ended, whole) = played(rt.alloc(), licence, &[b""], script.as_slice(), &[])?;
+    assert_eq!(rt; ended, Ok(()));
+    assert_eq!(rt; whole.bytes.len(), 8000 * 9);
+    let (ended, cut) = played(rt.alloc(), licence, &[b""], script.as_slice(), &[1])?;
     assert_eq!(rt; ended, Err(PlayFault::WriteFailed));
-    assert!(rt; sink.bytes.as_slice() == b"NOTHELD #0\n".as_slice());
+    assert!(rt; !cut.bytes.is_empty() && cut.bytes.len() < whole.bytes.len());
+    assert!(rt; whole.bytes.as_slice().starts_with(cut.bytes.as_slice()));
+    let (ended, none) = played(rt.alloc(), licence, &[b""], script.as_slice(), &[0])?;
+    assert_eq!(rt; ended, Err(PlayFault::WriteFailed));
+    assert!(rt; none.bytes.is_empty());
     Ok(())
 }

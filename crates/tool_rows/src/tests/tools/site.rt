@@ -113,21 +113,7 @@ fn a_site_that_is_cut(rt: HostRuntime) -> Result<(), Fail> {
     Ok(())
 }
 
-/// The first lines of a text, so many of them.
-fn first_lines(text: &[u8], count: u64) -> &[u8] {
-    let mut left = count;
-    for (at, byte) in text.iter().enumerate() {
-        if left == 0 {
-            return &text[..at];
-        }
-        if *byte == b'\n' {
-            left -= 1;
-        }
-    }
-    text
-}
-
-/// Each write of a check and of a replay fails once: what was written before stays.
+/// The one write of a check or of a replay fails.
 #[test]
 fn a_write_that_fails_is_a_write_fault(rt: HostRuntime) -> Result<(), Fail> {
     let held = [
@@ -135,14 +121,11 @@ fn a_write_that_fails_is_a_write_fault(rt: HostRuntime) -> Result<(), Fail> {
         ("options", OPTIONS),
         ("script", SCRIPT),
     ];
-    let ended = run_failing(rt.alloc(), &CHECK, &held, &[], &[0])?;
-    expect(&rt, &ended, 7, b"", b"write fault\n");
-    for line in 0..8 {
-        let ended = run_failing(rt.alloc(), &REPLAY, &held, &[], &[line])?;
-        let written = first_lines(REPLIES, line);
-        expect(&rt, &ended, 7, written, b"write fault\n");
+    for words in [CHECK.as_slice(), REPLAY.as_slice()] {
+        let ended = run_failing(rt.alloc(), words, &held, &[], &[0])?;
+        expect(&rt, &ended, 7, b"", b"write fault\n");
     }
-    let ended = run_failing(rt.alloc(), &REPLAY, &held, &[], &[8])?;
+    let ended = run_failing(rt.alloc(), &REPLAY, &held, &[], &[1])?;
     expect(&rt, &ended, 0, REPLIES, b"");
     Ok(())
 }
