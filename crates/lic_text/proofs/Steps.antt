@@ -20,7 +20,7 @@ pub record IsLast (all : List (List ℕ)) (text : List ℕ) (texts : List (List 
   pub count : line_count all ≡ 1
   pub behind : lines_behind all ≡ texts
 
-continued_here : (text : List ℕ) (texts : List (List ℕ)) → is_continued text ≡ true → IsContinued (text ∷ texts) text texts
+pub continued_here : (text : List ℕ) (texts : List (List ℕ)) → is_continued text ≡ true → IsContinued (text ∷ texts) text texts
 continued_here text texts h = record {
   size = rw h (length-append (without_last text) (32 ∷ joined_text texts) ∙ ap (λ (n : ℕ). length (without_last text) + n) (omega arith));
   end = rw h refl;
@@ -28,7 +28,7 @@ continued_here text texts h = record {
   behind = rw h refl;
 }
 
-last_here : (text : List ℕ) (texts : List (List ℕ)) → is_continued text ≡ false → IsLast (text ∷ texts) text texts
+pub last_here : (text : List ℕ) (texts : List (List ℕ)) → is_continued text ≡ false → IsLast (text ∷ texts) text texts
 last_here text texts h = record { size = rw h refl; end = rw h refl; count = rw h refl; behind = rw h refl }
 
 pub continued : (all : List (List ℕ)) (text : List ℕ) (texts : List (List ℕ)) → all ≡ text ∷ texts → is_continued text ≡ true → IsContinued all text texts
@@ -52,11 +52,9 @@ fault_here text texts n m size is_open fault h s o f =
     ∙ ap (λ (others : List (Result Worded TextFault)). Err fault ∷ others) (sym (ap (lines_from m) no_lines ∙ none_left m))
 
 pub step_fault : (all : List (List ℕ)) (text : List ℕ) (texts : List (List ℕ)) (n m size : ℕ) (is_open : Bool) (fault : TextFault) → all ≡ text ∷ texts → false ≡ is_comment text →
-    size ≡ length (joined_text all) → is_open ≡ has_no_end all → Some fault ≡ fault_of n size is_open →
+    size ≡ length (joined_text (text ∷ texts)) → is_open ≡ has_no_end (text ∷ texts) → Some fault ≡ fault_of n size is_open →
     lines_from n all ≡ Err fault ∷ lines_from m (physical_lines [])
-step_fault all text texts n m size is_open fault e h =
-    let P : List (List ℕ) → Type 0 = λ lines. size ≡ length (joined_text lines) → is_open ≡ has_no_end lines → Some fault ≡ fault_of n size is_open → lines_from n lines ≡ Err fault ∷ lines_from m (physical_lines []) in
-    subst P (sym e) (fault_here text texts n m size is_open fault h)
+step_fault all text texts n m size is_open fault e h s o f = ap (lines_from n) e ∙ fault_here text texts n m size is_open fault h s o f
 
 same_rest : (n count : ℕ) (c : ℕ) (behind b : List (List ℕ)) → count ≡ c → behind ≡ b → lines_from (n + 1 + c) b ≡ lines_from (n + count + 1) behind
 same_rest n count c behind b e f =
@@ -71,14 +69,14 @@ told_here text texts behind n size count is_open h s o k b f w =
     at_words text texts (n + 1) (sym h) (same_fault (n + 1) size (length (joined_text (text ∷ texts))) is_open (has_no_end (text ∷ texts)) None s o f) (sym w)
     ∙ ap (λ (others : List (Result Worded TextFault)). Ok (n + 1, words_of (joined_text (text ∷ texts))) ∷ others) (same_rest n count (line_count (text ∷ texts)) behind (lines_behind (text ∷ texts)) k b)
 
-pub step_told : (all : List (List ℕ)) (text : List ℕ) (texts : List (List ℕ)) (behind : List (List ℕ)) (n size count : ℕ) (is_open : Bool) → all ≡ text ∷ texts → false ≡ is_comment text →
-    size ≡ length (joined_text all) → is_open ≡ has_no_end all → count ≡ line_count all → behind ≡ lines_behind all →
-    None ≡ fault_of (n + 1) size is_open → true ≡ not (is_empty (words_of (joined_text all))) →
-    lines_from (n + 1) all ≡ Ok (n + 1, words_of (joined_text all)) ∷ lines_from (n + count + 1) behind
-step_told all text texts behind n size count is_open e h =
-    let P : List (List ℕ) → Type 0 = λ lines. size ≡ length (joined_text lines) → is_open ≡ has_no_end lines → count ≡ line_count lines → behind ≡ lines_behind lines →
-    None ≡ fault_of (n + 1) size is_open → true ≡ not (is_empty (words_of (joined_text lines))) → lines_from (n + 1) lines ≡ Ok (n + 1, words_of (joined_text lines)) ∷ lines_from (n + count + 1) behind in
-    subst P (sym e) (told_here text texts behind n size count is_open h)
+pub step_told : (all : List (List ℕ)) (text : List ℕ) (texts : List (List ℕ)) (behind words : List (List ℕ)) (n size count : ℕ) (is_open : Bool) → all ≡ text ∷ texts → false ≡ is_comment text →
+    size ≡ length (joined_text (text ∷ texts)) → is_open ≡ has_no_end (text ∷ texts) → count ≡ line_count (text ∷ texts) → behind ≡ lines_behind (text ∷ texts) →
+    None ≡ fault_of (n + 1) size is_open → words ≡ words_of (joined_text (text ∷ texts)) → true ≡ not (is_empty words) →
+    lines_from (n + 1) all ≡ Ok (n + 1, words) ∷ lines_from (n + count + 1) behind
+step_told all text texts behind words n size count is_open e h s o k b f is w =
+    let some : true ≡ not (is_empty (words_of (joined_text (text ∷ texts)))) = w ∙ ap (λ (ws : List (List ℕ)). not (is_empty ws)) is in
+    ap (lines_from (n + 1)) e ∙ (told_here text texts behind n size count is_open h s o k b f some
+    ∙ ap (λ (ws : List (List ℕ)). Ok (n + 1, ws) ∷ lines_from (n + count + 1) behind) (sym is))
 
 silent_here : (text : List ℕ) (texts : List (List ℕ)) (behind : List (List ℕ)) (n size count : ℕ) (is_open : Bool) → false ≡ is_comment text →
     size ≡ length (joined_text (text ∷ texts)) → is_open ≡ has_no_end (text ∷ texts) → count ≡ line_count (text ∷ texts) → behind ≡ lines_behind (text ∷ texts) →
@@ -88,10 +86,9 @@ silent_here text texts behind n size count is_open h s o k b f w =
     past_blanks text texts (n + 1) (sym h) (same_fault (n + 1) size (length (joined_text (text ∷ texts))) is_open (has_no_end (text ∷ texts)) None s o f) (sym w)
     ∙ same_rest n count (line_count (text ∷ texts)) behind (lines_behind (text ∷ texts)) k b
 
-pub step_silent : (all : List (List ℕ)) (text : List ℕ) (texts : List (List ℕ)) (behind : List (List ℕ)) (n size count : ℕ) (is_open : Bool) → all ≡ text ∷ texts → false ≡ is_comment text →
-    size ≡ length (joined_text all) → is_open ≡ has_no_end all → count ≡ line_count all → behind ≡ lines_behind all →
-    None ≡ fault_of (n + 1) size is_open → false ≡ not (is_empty (words_of (joined_text all))) → lines_from (n + 1) all ≡ lines_from (n + count + 1) behind
-step_silent all text texts behind n size count is_open e h =
-    let P : List (List ℕ) → Type 0 = λ lines. size ≡ length (joined_text lines) → is_open ≡ has_no_end lines → count ≡ line_count lines → behind ≡ lines_behind lines →
-    None ≡ fault_of (n + 1) size is_open → false ≡ not (is_empty (words_of (joined_text lines))) → lines_from (n + 1) lines ≡ lines_from (n + count + 1) behind in
-    subst P (sym e) (silent_here text texts behind n size count is_open h)
+pub step_silent : (all : List (List ℕ)) (text : List ℕ) (texts : List (List ℕ)) (behind words : List (List ℕ)) (n size count : ℕ) (is_open : Bool) → all ≡ text ∷ texts → false ≡ is_comment text →
+    size ≡ length (joined_text (text ∷ texts)) → is_open ≡ has_no_end (text ∷ texts) → count ≡ line_count (text ∷ texts) → behind ≡ lines_behind (text ∷ texts) →
+    None ≡ fault_of (n + 1) size is_open → words ≡ words_of (joined_text (text ∷ texts)) → false ≡ not (is_empty words) → lines_from (n + 1) all ≡ lines_from (n + count + 1) behind
+step_silent all text texts behind words n size count is_open e h s o k b f is w =
+    let none : false ≡ not (is_empty (words_of (joined_text (text ∷ texts)))) = w ∙ ap (λ (ws : List (List ℕ)). not (is_empty ws)) is in
+    ap (lines_from (n + 1)) e ∙ silent_here text texts behind n size count is_open h s o k b f none

@@ -11,4 +11,4 @@ words_left s = words_of s.text.now ++ words_of (joined_text (physical_lines s.fu
 
 -- a line as its number and its words
 abbrev pub worded_line : Line → Worded
-worded_line line = (line.first, words_of (joined_text (physical_lines line.from.now)))
+worded_line line = (line.first, words_left line.words)

@@ -7,8 +7,8 @@ use crate::words::Words;
 #[derive(Clone, Copy)]
 pub struct Line<'a> {
     pub(crate) first: u32,
-    // The file from the line's first byte on.
-    pub(crate) from: &'a [u8],
+    // None of them is taken.
+    pub(crate) words: Words<'a>,
 }
 
 impl<'a> Line<'a> {
@@ -25,10 +25,7 @@ impl<'a> Line<'a> {
     pub fn words(&self) -> Words<'a>
         ensures { words_left result ≡ (worded_line self.now).1 }
     {
-        Words {
-            text: &[],
-            further: self.from,
-        }
+        self.words
     }
 
     pub(crate) fn has_words(&self) -> bool

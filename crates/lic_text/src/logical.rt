@@ -5,6 +5,7 @@ use crate::fault::TextFault;
 use crate::judge::fault_of;
 use crate::line::Line;
 use crate::physical::{cut_line, is_comment};
+use crate::words::Words;
 
 /// The logical lines of a file, each with its number and words. They end after the first fault.
 #[derive(Drop)]
@@ -25,22 +26,22 @@ impl<'a> Lines<'a> {
             (λ told. lines_left self.old ≡ item_view told ∷ lines_left self.new) }
         ensures nearer { length self.new.rest.now < length self.old.rest.now }
     {
-        let from = self.rest;
         let first = self.passed + 1;
-        let (text, behind) = cut_line(from);
+        let (text, behind) = cut_line(self.rest);
         if is_comment(text) {
             self.rest = behind;
             self.passed = first;
             return None;
         }
-        let extent = measure(from);
+        let extent = measure(text, behind);
         if let Some(fault) = fault_of(first, &extent) {
             self.rest = &[];
             return Some(Err(fault));
         }
         self.rest = extent.rest;
         self.passed += extent.count;
-        let line = Line { first, from };
+        let words = Words::beginning(text, behind);
+        let line = Line { first, words };
         if line.has_words() {
             Some(Ok(line))
         } else {

@@ -2,17 +2,13 @@ ghost use Rattle.std.specs.Prelude.{◌≡◌, ◌+◌, ◌<◌, ◌≤◌, ◌=
 ghost use Rattle.std.specs.List.{position_or_len};
 ghost use Rattle.lic_text.specs.Physical.{is_blank, ends_in, without_last, without_return, is_comment, physical_lines};
 
+use memchr::memchr;
+
 /// A space or a tab.
 pub(crate) fn is_blank(b: u8) -> bool
     ensures { result ≡ is_blank b }
 {
     b == b' ' || b == b'\t'
-}
-
-fn first_feed(bytes: &[u8]) -> Option<usize>
-    ensures { result ≡ position (λ b. b == 10) bytes.now }
-{
-    bytes.iter().position(|b| *b == b'\n')
 }
 
 fn first_blank(bytes: &[u8]) -> Option<usize>
@@ -28,12 +24,11 @@ fn first_other(bytes: &[u8]) -> Option<usize>
 }
 
 /// Where the first physical line ends: at its LF, or at the end of the text.
-#[tactic(auto, using(crate::proofs::Ends::ends))]
 fn line_end(bytes: &[u8]) -> usize
     ensures place { result ≡ position_or_len (λ b. b == 10) bytes.now }
     ensures within { result ≤ length bytes.now }
 {
-    first_feed(bytes).unwrap_or(bytes.len())
+    memchr(b'\n', bytes).unwrap_or(bytes.len())
 }
 
 #[tactic(auto, using(crate::proofs::Ends::ends))]

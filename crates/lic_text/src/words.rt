@@ -1,4 +1,4 @@
-ghost use Rattle.std.specs.Prelude.{◌≡◌, ◌<◌, [], length};
+ghost use Rattle.std.specs.Prelude.{◌≡◌, ◌<◌, ◌≤◌, ◌∷◌, [], length};
 ghost use Rattle.lic_text.specs.Physical.{physical_lines};
 ghost use Rattle.lic_text.specs.Left.{words_left};
 ghost use Rattle.lic_text.specs.Lines.{words_of};
@@ -18,6 +18,20 @@ pub struct Words<'a> {
 impl<'a> Words<'a> {
     ghost use Rattle.std.specs.Iterator.{YieldsFirstBy};
     ghost use Rattle.lic_text.specs.Left.{words_left};
+
+    /// The words of a logical line from this physical line of it on, behind which the file goes on.
+    pub(crate) fn beginning(text: &'a [u8], behind: &'a [u8]) -> Words<'a>
+        ensures words { words_left result ≡ words_of (joined_text (text.now ∷ physical_lines behind.now)) }
+        ensures within { length result.further.now ≤ length behind.now }
+    {
+        match strip_last(text, b'\\') {
+            Some(front) => Words {
+                text: front,
+                further: behind,
+            },
+            None => Words { text, further: &[] },
+        }
+    }
 
     /// The next word of the physical line that is read.
     fn next_here(&mut self) -> Option<&'a [u8]>
@@ -41,16 +55,7 @@ impl<'a> Words<'a> {
         ensures nearer { length self.new.further.now < length self.old.further.now }
     {
         let (text, rest) = cut_line(self.further);
-        match strip_last(text, b'\\') {
-            Some(front) => {
-                self.text = front;
-                self.further = rest;
-            }
-            None => {
-                self.text = text;
-                self.further = &[];
-            }
-        }
+        *self = Words::beginning(text, rest);
     }
 }
 

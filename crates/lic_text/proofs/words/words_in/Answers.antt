@@ -1,6 +1,5 @@
-use Rattle.std.proofs.Common.{◌≡◌, ◌++◌, [], List, ℕ, refl, ap, ◌∙◌}
+use Rattle.std.proofs.Common.{◌++◌, [], List, ℕ, refl, ap, ◌∙◌}
 use Rattle.std.proofs.lemmas.List.{append-nil}
-use Rattle.lic_text.specs.Physical.{physical_lines}
 use Rattle.lic_text.specs.Lines.{words_of}
 use Rattle.lic_text.specs.Prefix.{joined_text}
 use Rattle.lic_text.proofs.Parts.{no_bytes}

@@ -1,7 +1,7 @@
 use Rattle.std.proofs.Common.{◌≡◌, ◌+◌, ◌≤◌, length}
 use Rattle.lic_text.specs.Physical.{physical_lines}
 use Rattle.lic_text.specs.Prefix.{joined_text, has_no_end, line_count, lines_behind}
-use Rattle.lic_text.proofs.extent.measure.Given as goal
+use Rattle.lic_text.proofs.extent.measure_further.Given as goal
 
 -- what was read and what is left make up the whole
 abbrev pub invariant-loop-rest : goal.invariant-loop-rest

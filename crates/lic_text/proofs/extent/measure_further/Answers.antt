@@ -1,7 +1,7 @@
 use Rattle.std.proofs.Common.{◌≡◌, [], ◌∙◌, arith}
 use Rattle.lic_text.specs.Physical.{physical_lines}
 use Rattle.lic_text.proofs.Parts.{no_bytes}
-use Rattle.lic_text.proofs.extent.measure.Goals as goal
+use Rattle.lic_text.proofs.extent.measure_further.Goals as goal
 
 pub returns-clause-length : goal.returns-clause-length
 returns-clause-length c =
