@@ -1,4 +1,4 @@
-"""Prints the nanoseconds of processor time that a publishing and a glance take, by the number of readers."""
+"""Prints the nanoseconds of processor time that a publishing and a glance take, by the number of passes."""
 import os
 import sys
 
@@ -7,11 +7,11 @@ FEW, TIMES = 1_000, 5
 MANY = {"publish": 501_000, "glance": 5_001_000}
 
 
-def seconds(call, readers, rounds):
+def seconds(call, passes, rounds):
     """The processor time of one run, which what else the machine does disturbs little."""
     child = os.posix_spawn(
         PROGRAM,
-        [PROGRAM, "board", call, str(readers), str(rounds)],
+        [PROGRAM, "board", call, str(passes), str(rounds)],
         os.environ,
         file_actions=[(os.POSIX_SPAWN_OPEN, 1, os.devnull, os.O_WRONLY, 0)],
     )
@@ -21,13 +21,13 @@ def seconds(call, readers, rounds):
     return usage.ru_utime + usage.ru_stime
 
 
-def nanoseconds_a_call(call, readers):
-    few = min(seconds(call, readers, FEW) for _ in range(TIMES))
-    many = min(seconds(call, readers, MANY[call]) for _ in range(TIMES))
+def nanoseconds_a_call(call, passes):
+    few = min(seconds(call, passes, FEW) for _ in range(TIMES))
+    many = min(seconds(call, passes, MANY[call]) for _ in range(TIMES))
     return (many - few) / (MANY[call] - FEW) * 1e9
 
 
-print("readers   publish   glance   (nanoseconds a call)")
-for readers in (1, 16, 256):
-    told = [nanoseconds_a_call(call, readers) for call in ("publish", "glance")]
-    print(f"{readers:7}   {told[0]:7.0f}   {told[1]:6.0f}")
+print(" passes   publish   glance   (nanoseconds a call)")
+for passes in (1, 16, 256):
+    told = [nanoseconds_a_call(call, passes) for call in ("publish", "glance")]
+    print(f"{passes:7}   {told[0]:7.0f}   {told[1]:6.0f}")

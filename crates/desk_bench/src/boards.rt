@@ -109,9 +109,9 @@ fn run<R: Wait>(
 /// The front that is read behind the calls of these words.
 pub fn front_of_board<R: Wait>(rt: &R, alloc: Global, mut words: Args) -> Result<u64> {
     let call = Call::of(words.next().context("no call")?.as_str())?;
-    let n: u32 = words.next().context("no number of readers")?.parse()?;
+    let n: u32 = words.next().context("no number of passes")?.parse()?;
     let rounds: u32 = words.next().context("no number of rounds")?.parse()?;
-    ensure!(1 <= n && n <= 256, "not from 1 to 256 readers");
+    ensure!(1 <= n && n <= 256, "not from 1 to 256 passes");
     let name = Name::read(b"ann")?;
     let client = Client {
         user: name,

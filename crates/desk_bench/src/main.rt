@@ -8,7 +8,7 @@
 //! times with each, every pass in a thread of its own. It closes the lock and prints the number of the calls, so that a
 //! lost one shows.
 //!
-//! `desk_bench board publish N ROUNDS` makes a board with N readers, from 1 to 256, and publishes ROUNDS entries;
+//! `desk_bench board publish N ROUNDS` makes a board with N passes, from 1 to 256, and publishes ROUNDS entries;
 //! `desk_bench board glance N ROUNDS` publishes one and reads it ROUNDS times with the last of the N passes. It prints
 //! the front that is read at the end, so that a lost one shows.
 //!

@@ -3,6 +3,7 @@ ghost use Rattle.std.specs.Prelude.{◌≡◌, ◌⊎◌, ◌++◌, ◌≤◌, f
 ghost use Rattle.lic_types.specs.declared.limits.TheConstants.{PARTY_LIMIT};
 ghost use Rattle.counter.specs.Glances.{glance_of};
 ghost use Rattle.left_right.specs.Sides.{view};
+ghost use Rattle.stat_board.specs.declared.sharing.TheConstants.{READERS};
 ghost use Rattle.stat_board.specs.Fronts.{IsLater, longer};
 ghost use Rattle.stat_board.specs.Rule.{last_of, IsPublished, IsTold};
 ghost use Rattle.stat_board.specs.Shows.{HasNumbers};
@@ -11,7 +12,9 @@ use crate::law::Ruling;
 use crate::list::Head;
 use crate::note::BoardNote;
 use crate::pass::BoardPass;
+use crate::readers::Readers;
 use crate::rule::{NoteReader, NoteWriter, Sees, Telling};
+use crate::sharing::READERS;
 use core::mem::replace_with;
 use counter::Glance;
 use no_memory::NoMemory;
@@ -43,8 +46,9 @@ impl Model for Board {
 }
 
 impl Board {
-    /// A board with a pass for each of `n` parties, from 1 to 256. It shows the opening state under the rule sets that
-    /// `M` tells of `about`, and that is all that its passes know.
+    /// A board with a pass for each of `n` parties, from 1 to 256, and with four readers that the passes share, or `n`
+    /// where that is less. It shows the opening state under the rule sets that `M` tells of `about`, and that is all
+    /// that its passes know.
     ///
     /// It is refused only where there is too little memory. It waits for nobody, since there is no reader yet.
     pub fn make<R: Wait, X, M: Ruling<X>>(
@@ -64,9 +68,12 @@ impl Board {
     {
         let mut passes = Vec::with_capacity(alloc, n as usize)?;
         let (head, note) = BoardNote::open::<X, M>(about, glance);
-        let writer = NoteWriter::new(alloc, note.copy(), note.copy(), n as usize)?;
+        let mut readers = Readers::vacant(alloc, &note)?;
+        deal(&mut readers, &note, &mut passes, n)?;
+        let count = READERS.min(n as usize);
+        let writer = NoteWriter::new(alloc, note.copy(), note.copy(), count)?;
         let (mut writer, ()) = show(writer, rt);
-        deal(&mut writer, &note, &mut passes, n);
+        fill(&mut readers, &mut writer, &note, count);
         let board = Board {
             head,
             writer,
@@ -78,7 +85,8 @@ impl Board {
     /// Publishes the numbers of the state after one entry more. The Glance's front is set here.
     ///
     /// A board that isn't live stays as it was. Where there is no memory, or a front of 2^64 would be next, the board
-    /// isn't live any more. It waits for those who still read what was published before the last.
+    /// isn't live any more. It looks at each reader, and waits for those who still read what was published before the
+    /// last.
     pub fn publish<R: Wait>(&mut self, rt: &R, entry: &Entry, glance: Glance)
         requires numbers { self.old.live ≡ true → HasNumbers self.old.front.sets (self.old.front.list ++ entry.now ∷ []) glance }
         ensures { ((self.old.live ≡ true) × (self.new ≡ record self.old { front = longer self.old.front (entry.now) })) ⊎ (self.new ≡ record self.old { live = false }) }
@@ -132,17 +140,36 @@ fn show<R: Wait>(writer: NoteWriter, rt: &R) -> (NoteWriter, ())
     (writer, ())
 }
 
-/// Gives each party a pass, with a reader where there is a place for it.
-fn deal(writer: &mut NoteWriter, note: &BoardNote, passes: &mut Vec<BoardPass>, n: u32)
-    requires published { IsPublished writer.old.desk.shown.value (view writer.old.desk.place) (drop writer.old.behind writer.old.log.items) note.now }
+/// Gives each party a pass. All share the readers, of which there are none yet.
+fn deal(
+    readers: &mut Readers,
+    note: &BoardNote,
+    passes: &mut Vec<BoardPass>,
+    n: u32,
+) -> Result<(), NoMemory>
+    requires opening { readers.old ≡ note.now }
     requires room { (passes.old.items ≡ []) × (n ≤ vec_capacity passes.old) }
-    ensures published { IsPublished writer.new.desk.shown.value (view writer.new.desk.place) (drop writer.new.behind writer.new.log.items) note.now }
-    ensures count { vec_len passes.new ≡ n }
-    ensures passes { All (λ p. p ≡ note.now) passes.new.items }
+    ensures opening { readers.new ≡ note.now }
+    ensures count { IfOk result (λ _. vec_len passes.new ≡ n) }
+    ensures passes { IfOk result (λ _. All (λ p. p ≡ note.now) passes.new.items) }
 {
     for _dealt in 0..n {
-        let reader = informed(writer, note);
-        passes.push_reserved(BoardPass::of(note.copy(), reader));
+        passes.push_reserved(BoardPass::of(note.copy(), readers.share()?));
+    }
+    Ok(())
+}
+
+/// Makes so many readers, which know what was published last.
+fn fill(readers: &mut Readers, writer: &mut NoteWriter, note: &BoardNote, count: usize)
+    requires opening { readers.old ≡ note.now }
+    requires count { count ≤ READERS }
+    requires published { IsPublished writer.old.desk.shown.value (view writer.old.desk.place) (drop writer.old.behind writer.old.log.items) note.now }
+    ensures published { IsPublished writer.new.desk.shown.value (view writer.new.desk.place) (drop writer.new.behind writer.new.log.items) note.now }
+{
+    for number in 0..count {
+        if let Some(reader) = informed(writer, note) {
+            readers.put(number, reader);
+        }
     }
 }
 

@@ -2,8 +2,13 @@
 //! lock.
 //!
 //! [`Board::make`] gives the writer's side and a pass for each party. Each Glance stands for a list of entries, and a
-//! board's lists each begin with the one before. [`BoardPass::glance`] reads the last one and waits for nobody. A
-//! [`BoardNote`] says what a party has read; a pass that hears it reads at least that from then on.
+//! board's lists each begin with the one before. A [`BoardNote`] says what a party has read; a pass that hears it reads
+//! at least that from then on.
+//!
+//! A board has four readers, or one for each party where there are fewer, since a publishing looks at each reader and
+//! waits for those who still read what it is to change. The passes share them: [`BoardPass::glance`] takes one that
+//! nobody else has at that moment, reads the last Glance with it, and puts it back. It waits for nobody. Where all
+//! readers are in use it answers what its pass has read or was told before, so it may be behind.
 #![tactic(auto)]
 
 mod board;
@@ -11,7 +16,9 @@ mod law;
 mod list;
 mod note;
 mod pass;
+mod readers;
 mod rule;
+mod sharing;
 
 pub use board::Board;
 pub use counter::Glance;

@@ -1,0 +1,66 @@
+//! The table of a board's readers: its rule, and what each step tells.
+use crate::note::BoardNote;
+use crate::rule::NoteReader;
+use atomic_table::{Play, Seat, Split, Table, TableRule};
+use std::alloc::Global;
+use std::snapshot::Snapshot;
+
+/// How many readers a board has at most. A publishing looks at each of them.
+pub(crate) const READERS: usize = 4;
+
+/// From one reader's word and slot to the next one's, so that no two are in one line of a processor's cache.
+pub(crate) const STRIDE: usize = 16;
+
+/// How many words and slots the table has.
+pub(crate) const PLACES: usize = READERS * STRIDE;
+
+/// The rule: a word is 0 where its slot is at home, and each reader at home was told of the board that its table opened
+/// with.
+pub(crate) struct Sharing;
+
+impl TableRule<Option<NoteReader>, BoardNote, Snapshot<BoardNote>> for Sharing {
+    ghost use Rattle.left_right.specs.Sides.{view};
+    ghost use Rattle.stat_board.specs.Sharing.{IsShared};
+
+    ghost holds = { λ key. IsShared (λ r. view r.place) key.value };
+
+    ghost first = { λ key. key.value };
+}
+
+/// A new seat knows the same opening.
+impl Split<BoardNote> for Sharing {
+    ghost left = { λ f. f };
+
+    ghost right = { λ f. f };
+}
+
+/// Raises the word of a slot from 0 to 1: then the seat has the slot.
+pub(crate) struct Take;
+
+impl Play<Option<NoteReader>, BoardNote> for Take {
+    ghost use Rattle.left_right.specs.Sides.{view};
+    ghost use Rattle.stat_board.specs.Sharing.{takes_slot};
+
+    ghost then = { takes_slot (λ r. view r.place) };
+}
+
+/// Sets the word of a slot to 0: the slot goes home.
+pub(crate) struct Give;
+
+impl Play<Option<NoteReader>, BoardNote> for Give {
+    ghost use Rattle.stat_board.specs.Sharing.{gives_slot};
+
+    ghost then = { gives_slot };
+}
+
+/// The word and the slot of reader r are those of number 16 r, and the others are not used.
+pub(crate) type ReaderTable = Table<
+    Option<NoteReader>,
+    BoardNote,
+    Snapshot<BoardNote>,
+    Sharing,
+    Global,
+>;
+
+/// A seat at that table. It has no bytes.
+pub(crate) type ReaderSeat = Seat<Option<NoteReader>, BoardNote>;
