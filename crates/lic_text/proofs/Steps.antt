@@ -1,41 +1,10 @@
-use Rattle.std.proofs.Common.{◌≡◌, ℕ, ◌+◌, Bool, true, false, not, List, [], ◌∷◌, length, Option, None, Some, Result, Ok, Err, refl, sym, ap, subst, ◌∙◌, length-append, arith}
-use Rattle.lic_text.specs.Physical.{is_empty, is_comment, is_continued, without_last, physical_lines}
+use Rattle.std.proofs.Common.{◌≡◌, ℕ, ◌+◌, Bool, true, false, not, List, [], ◌∷◌, length, Option, None, Some, Result, Ok, Err, sym, ap, ◌∙◌, arith}
+use Rattle.lic_text.specs.Physical.{is_empty, is_comment, physical_lines}
 use Rattle.lic_text.specs.Lines.{fault_of, words_of, lines_from, Worded}
 use Rattle.lic_text.specs.Prefix.{joined_text, has_no_end, line_count, lines_behind}
 use Rattle.lic_text.specs.declared.fault.TextFault.{TextFault}
 use Rattle.lic_text.proofs.Prefixes.{past_comment, at_fault, at_words, past_blanks, none_left}
 use Rattle.lic_text.proofs.Parts.{no_lines}
-
--- the first physical line is continued by the others
-pub record IsContinued (all : List (List ℕ)) (text : List ℕ) (texts : List (List ℕ)) : Type 0 where
-  pub size : length (joined_text all) ≡ length (without_last text) + (1 + length (joined_text texts))
-  pub end : has_no_end all ≡ has_no_end texts
-  pub count : line_count all ≡ 1 + line_count texts
-  pub behind : lines_behind all ≡ lines_behind texts
-
--- the first physical line ends the logical line
-pub record IsLast (all : List (List ℕ)) (text : List ℕ) (texts : List (List ℕ)) : Type 0 where
-  pub size : length (joined_text all) ≡ length text
-  pub end : has_no_end all ≡ false
-  pub count : line_count all ≡ 1
-  pub behind : lines_behind all ≡ texts
-
-pub continued_here : (text : List ℕ) (texts : List (List ℕ)) → is_continued text ≡ true → IsContinued (text ∷ texts) text texts
-continued_here text texts h = record {
-  size = rw h (length-append (without_last text) (32 ∷ joined_text texts) ∙ ap (λ (n : ℕ). length (without_last text) + n) (omega arith));
-  end = rw h refl;
-  count = rw h refl;
-  behind = rw h refl;
-}
-
-pub last_here : (text : List ℕ) (texts : List (List ℕ)) → is_continued text ≡ false → IsLast (text ∷ texts) text texts
-last_here text texts h = record { size = rw h refl; end = rw h refl; count = rw h refl; behind = rw h refl }
-
-pub continued : (all : List (List ℕ)) (text : List ℕ) (texts : List (List ℕ)) → all ≡ text ∷ texts → is_continued text ≡ true → IsContinued all text texts
-continued all text texts e h = let P : List (List ℕ) → Type 0 = λ lines. IsContinued lines text texts in subst P (sym e) (continued_here text texts h)
-
-pub last : (all : List (List ℕ)) (text : List ℕ) (texts : List (List ℕ)) → all ≡ text ∷ texts → is_continued text ≡ false → IsLast all text texts
-last all text texts e h = let P : List (List ℕ) → Type 0 = λ lines. IsLast lines text texts in subst P (sym e) (last_here text texts h)
 
 -- what one step of the lines leaves
 pub step_comment : (all : List (List ℕ)) (text : List ℕ) (texts : List (List ℕ)) (n : ℕ) → all ≡ text ∷ texts → true ≡ is_comment text → lines_from (n + 1) all ≡ lines_from (n + 1 + 1) texts
