@@ -1,7 +1,7 @@
-ghost use Rattle.std.specs.Prelude.{◌≡◌, ◌<◌, ◌≤◌, IfSome, length, not};
-ghost use Rattle.std.specs.List.{position_from};
-ghost use Rattle.lic_types.specs.Name.{IsName, filled_room, is_name_byte, name_of};
+ghost use Rattle.std.specs.Prelude.{◌≡◌, ◌≤◌, length};
+ghost use Rattle.lic_types.specs.Name.{IsName, filled_room, name_of};
 
+use crate::name_ref::NameRef;
 use std::cmp::Ordering;
 use std::fmt;
 use std::fmt::Write;
@@ -113,20 +113,6 @@ impl Eq for Name {
     ghost laws = { nat_list_eq_equiv };
 }
 
-fn is_name_byte(b: u8) -> bool
-    ensures { result ≡ is_name_byte b }
-{
-    33 <= b && b <= 126
-}
-
-/// The first byte that no name has.
-fn first_bad(word: &[u8]) -> Option<usize>
-    ensures first { result ≡ position_from (λ b. not (is_name_byte b)) 0 word.now }
-    ensures within { IfSome result (λ at. at < length word.now) }
-{
-    word.iter().position(|b| !is_name_byte(*b))
-}
-
 /// The word, and zeros after it.
 fn room_of(word: &[u8]) -> [u8; 64]
     requires { length word.now ≤ 64 }
@@ -142,18 +128,20 @@ impl Name {
     pub fn read(word: &[u8]) -> Result<Name, NameFault>
         ensures { result ≡ name_of word.now }
     {
-        if word.is_empty() {
-            return Err(NameFault::Empty);
+        match NameRef::read(word) {
+            Ok(name) => Ok(name.name()),
+            Err(fault) => Err(fault),
         }
-        if word.len() > 64 {
-            return Err(NameFault::TooLong);
-        }
-        match first_bad(word) {
-            Some(at) => Err(NameFault::BadByte(at as u32)),
-            None => Ok(Name {
-                len: word.len() as u8,
-                room: room_of(word),
-            }),
+    }
+
+    /// The name of these bytes.
+    pub(crate) fn of_bytes(bytes: &[u8]) -> Name
+        requires { IsName bytes.now }
+        ensures { result ≡ bytes.now }
+    {
+        Name {
+            len: bytes.len() as u8,
+            room: room_of(bytes),
         }
     }
 

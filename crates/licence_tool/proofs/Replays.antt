@@ -3,7 +3,7 @@ use Rattle.feature_lines.specs.Licence.{Contents}
 use Rattle.log_audit.specs.Audited.{sets_of}
 use Rattle.log_audit.specs.declared.log.Numbered.{Numbered}
 use Rattle.options_text.specs.Options.{OptionsFile}
-use Rattle.script_text.specs.declared.line.ScriptLine.{ScriptLine}
+use Rattle.script_text.specs.Line.{AskedLine}
 use Rattle.scripts.specs.Laws.{Histories}
 use Rattle.licence_tool.specs.Command.{Audit, Replay, RunFiles}
 use Rattle.licence_tool.specs.Files.{AreReadings, Bytes, IsReading}
@@ -16,10 +16,10 @@ use Rattle.licence_tool.specs.declared.command.ScriptReport.{ScriptReport}
 use Rattle.licence_tool.specs.declared.status.Status.{Status}
 use Rattle.licence_tool.specs.declared.status.Status.TheVariants.{Done, Usage, Licence, Options, MoreOptions, Script, ReadFault, WriteFault, NoMemory, FileTooLong, AuditNo}
 
-abbrev pub hears_script : Hears (List ScriptLine)
+abbrev pub hears_script : Hears (List AskedLine)
 hears_script licence = script_heard
 
-abbrev pub owes_output : ScriptReport → Owes (List ScriptLine)
+abbrev pub owes_output : ScriptReport → Owes (List AskedLine)
 owes_output kind licence sets script = Text (script_output kind licence.pools sets script)
 
 abbrev pub hears_log : Hears (List Numbered)
@@ -47,7 +47,7 @@ untold kind Failed heard readings old new (FileTooLong file) says = tt
 untold kind Failed heard readings old new (AuditNo line) says = absurd says
 
 -- where all is written, the histories are told
-all_told : (kind : ScriptReport) (OutFailed : Type 0) (readings : RunFiles Bytes) (old new : Bytes) (status : Status) (licence : Contents) (options : OptionsFile) (script : List ScriptLine) (sets : List OptionsFile)
+all_told : (kind : ScriptReport) (OutFailed : Type 0) (readings : RunFiles Bytes) (old new : Bytes) (status : Status) (licence : Contents) (options : OptionsFile) (script : List AskedLine) (sets : List OptionsFile)
     → licence_heard readings.licence ≡ Ok licence → options_heard 0 readings.options ≡ Ok options → script_heard readings.third ≡ Ok script → sets_heard (options ∷ []) readings.more ≡ Ok sets
     → Histories licence.pools sets script → WritingSays OutFailed old new (script_output kind licence.pools sets script) status → HistoriesSay (Replay kind readings) old new status
 all_told kind OutFailed readings old new Done licence options script sets says_l says_o says_s says_m histories says = record {
@@ -98,7 +98,7 @@ replay_third kind Failed OutFailed told held status l o s licence options is_l i
     refused kind Failed OutFailed told held status (script_heard s) says (run_third hears_script (owes_output kind) Failed OutFailed told held status l o s licence options is_l is_o is_s says_l says_o says)
 
 -- one of its further options files is refused
-pub replay_fourth : (kind : ScriptReport) (Failed OutFailed : Type 0) (told : RunFiles Bytes) (held : Bytes) (status : Status) (l o s : Bytes) (m : List Bytes) (licence : Contents) (options : OptionsFile) (script : List ScriptLine)
+pub replay_fourth : (kind : ScriptReport) (Failed OutFailed : Type 0) (told : RunFiles Bytes) (held : Bytes) (status : Status) (l o s : Bytes) (m : List Bytes) (licence : Contents) (options : OptionsFile) (script : List AskedLine)
     → IsReading Failed told.licence l → IsReading Failed told.options o → IsReading Failed told.third s → AreReadings Failed told.more m
     → licence_heard l ≡ Ok licence → options_heard 0 o ≡ Ok options → script_heard s ≡ Ok script → RefusalSays Failed (sets_heard (options ∷ []) m) status → IsDone Failed OutFailed (Replay kind told) held held status
 replay_fourth kind Failed OutFailed told held status l o s m licence options script is_l is_o is_s are_m says_l says_o says_s says =
@@ -106,7 +106,7 @@ replay_fourth kind Failed OutFailed told held status l o s m licence options scr
     (run_fourth hears_script (owes_output kind) Failed OutFailed told held status l o s m licence options script is_l is_o is_s are_m says_l says_o says_s says)
 
 -- all its files are accepted, and what is told of the script is written
-pub replay_last : (kind : ScriptReport) (Failed OutFailed : Type 0) (told : RunFiles Bytes) (old new : Bytes) (status : Status) (l o s : Bytes) (m : List Bytes) (licence : Contents) (options : OptionsFile) (script : List ScriptLine) (sets : List OptionsFile)
+pub replay_last : (kind : ScriptReport) (Failed OutFailed : Type 0) (told : RunFiles Bytes) (old new : Bytes) (status : Status) (l o s : Bytes) (m : List Bytes) (licence : Contents) (options : OptionsFile) (script : List AskedLine) (sets : List OptionsFile)
     → IsReading Failed told.licence l → IsReading Failed told.options o → IsReading Failed told.third s → AreReadings Failed told.more m
     → licence_heard l ≡ Ok licence → options_heard 0 o ≡ Ok options → script_heard s ≡ Ok script → sets_heard (options ∷ []) m ≡ Ok sets
     → Histories licence.pools sets script → WritingSays OutFailed old new (script_output kind licence.pools sets script) status → IsDone Failed OutFailed (Replay kind told) old new status

@@ -11,7 +11,7 @@ use Rattle.options_text.specs.Answers.{◌>>=◌}
 use Rattle.options_text.specs.Options.{OptionsFile, options_of}
 use Rattle.options_text.specs.declared.fault.OptionsFault.{OptionsFault}
 use Rattle.script_text.specs.Script.{script_of}
-use Rattle.script_text.specs.declared.line.ScriptLine.{ScriptLine}
+use Rattle.script_text.specs.Line.{AskedLine}
 use Rattle.scripts.specs.Reports.{report_of}
 use Rattle.scripts.specs.Script.{output_of}
 use Rattle.trial_replay.specs.Replayed.{trial_text}
@@ -53,7 +53,7 @@ unfoldable pub options_heard : ℕ → Bytes → Result OptionsFile Status
 options_heard set reading = bytes_or_status (position_of_set set) reading >>= λ bytes. value_or_status (options_status set) (options_of bytes)
 
 -- the script, which is the third file
-unfoldable pub script_heard : Bytes → Result (List ScriptLine) Status
+unfoldable pub script_heard : Bytes → Result (List AskedLine) Status
 script_heard reading = bytes_or_status 3 reading >>= λ bytes. value_or_status Script (script_of bytes)
 
 -- the entries of the log, which is the third file, at so many pools
@@ -103,7 +103,7 @@ run_outcome third_heard due readings =
     Ok (due licence sets third))))
 
 -- what is told of a script at these pools, by the rules of these options files: its replies, or how the pools stand after it
-abbrev pub script_output : ScriptReport → List Pool → List OptionsFile → List ScriptLine → List ℕ
+abbrev pub script_output : ScriptReport → List Pool → List OptionsFile → List AskedLine → List ℕ
 script_output Replies pools sets script = output_of pools sets script
 script_output Pools pools sets script = report_of pools sets script
 

@@ -2,7 +2,7 @@ use Rattle.std.specs.Prelude.{◌≡◌, ℕ, ◌⊎◌, true, List, [], ◌∷�
 use Rattle.options_text.specs.Options.{OptionsFile}
 use Rattle.outside.specs.Told.{TakesPrefix, held_after}
 use Rattle.feature_lines.specs.Licence.{Contents}
-use Rattle.script_text.specs.declared.line.ScriptLine.{ScriptLine}
+use Rattle.script_text.specs.Line.{AskedLine}
 use Rattle.scripts.specs.Laws.{Histories}
 use Rattle.licence_tool.specs.Command.{Audit, CommandOf, Check, Replay, RunFiles, Trial}
 use Rattle.licence_tool.specs.Files.{AreOfCommand, AreReadings, Bytes, IsReading, told_by}
@@ -127,7 +127,7 @@ EndSays Failed OutFailed old new outcome (FileTooLong file) = (new ≡ old) × R
 pub record TellsHistories (kind : ScriptReport) (readings : RunFiles Bytes) (old new : Bytes) : Type 0 where
   pub licence : Contents
   pub options : OptionsFile
-  pub script : List ScriptLine
+  pub script : List AskedLine
   pub sets : List OptionsFile
   pub licence_is : licence_heard readings.licence ≡ Ok licence
   pub options_is : options_heard 0 readings.options ≡ Ok options

@@ -68,7 +68,7 @@ fn write_replies<O: Sink>(
     alloc: Global,
     licence: &Licence,
     sets: &[Options],
-    script: &[ScriptLine],
+    script: &[ScriptLine<'_>],
     out: &mut O,
 ) -> Result<(), Status>
     requires fit { list_all is_fit script.now ≡ true }
@@ -89,7 +89,7 @@ fn write_pools<O: Sink>(
     alloc: Global,
     licence: &Licence,
     sets: &[Options],
-    script: &[ScriptLine],
+    script: &[ScriptLine<'_>],
     out: &mut O,
 ) -> Result<(), Status>
     requires fit { list_all is_fit script.now ≡ true }
@@ -110,7 +110,7 @@ fn write_replay<O: Sink>(
     report: ScriptReport,
     licence: &Licence,
     sets: &[Options],
-    script: &[ScriptLine],
+    script: &[ScriptLine<'_>],
     out: &mut O,
 ) -> Result<(), Status>
     requires fit { list_all is_fit script.now ≡ true }
@@ -230,7 +230,8 @@ fn replay<F: Files, O: Sink>(
 {
     let licence = read_licence_file(alloc, files, licence)?;
     let options = read_options_file(alloc, files, options, 0)?;
-    let script = read_script_file(alloc, files, script)?;
+    let mut text = Vec::new(alloc);
+    let script = read_script_file(alloc, files, script, &mut text)?;
     let sets = read_sets(alloc, files, more, options)?;
     write_replay(
         alloc,

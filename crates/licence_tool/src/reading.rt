@@ -121,12 +121,14 @@ pub fn read_options_file<F: Files>(
     }
 }
 
-/// The lines of the script of a name, which is the third file.
-pub fn read_script_file<F: Files>(
+/// The lines of the script of a name, which is the third file. Its bytes are put into `text`, where the names of the
+/// lines stand.
+pub fn read_script_file<'a, F: Files>(
     alloc: Global,
     files: &mut F,
     name: &str,
-) -> Result<Vec<ScriptLine>, Status>
+    text: &'a mut Vec<u8>,
+) -> Result<Vec<ScriptLine<'a>>, Status>
     ensures says { IsHeard (λ v. v.items) script_heard (HasFailed (F.failed files.old) (F.failed files.new)) (F.contents files.old name.now) result }
     ensures fit { IfOk result (λ lines. list_all is_fit lines.items ≡ true) }
     ensures asked { Asks 3 (name.now ∷ []) (F.asked files.old) (F.asked files.new) (F.failed files.old) (F.failed files.new) (status_of result) }
@@ -134,7 +136,8 @@ pub fn read_script_file<F: Files>(
     ensures same { (other : List ℕ) → F.contents files.new other ≡ F.contents files.old other }
 {
     let file = read_file(alloc, files, name, 3)?;
-    match read_script(alloc, file.as_slice()) {
+    *text = file;
+    match read_script(alloc, text.as_slice()) {
         Ok(lines) => Ok(lines),
         Err(ScriptRefusal::Fault(fault)) => Err(Status::Script(fault)),
         Err(ScriptRefusal::NoMemory) => Err(Status::NoMemory),

@@ -6,17 +6,17 @@ use Rattle.script_words.specs.Firsts.{all_or_first_fault}
 use Rattle.script_words.specs.Texts.{at_its_line}
 use Rattle.script_words.specs.declared.fault.ScriptFault.{ScriptFault}
 use Rattle.script_text.specs.Words.{line_of_words}
-use Rattle.script_text.specs.declared.line.ScriptLine.{ScriptLine}
+use Rattle.script_text.specs.Line.{AskedLine}
 use Rattle.script_text.specs.declared.refusal.ScriptRefusal.{ScriptRefusal}
 use Rattle.script_text.specs.declared.refusal.ScriptRefusal.TheVariants.{Fault, NoMemory}
 
 -- the script line of a logical line
-abbrev pub line_of : Result Worded TextFault → Result ScriptLine ScriptFault
+abbrev pub line_of : Result Worded TextFault → Result AskedLine ScriptFault
 line_of (Ok line) = at_line line.0 (line_of_words line.0 line.1)
 line_of (Err fault) = Err (at_its_line fault)
 
 -- the lines of a script, or its first line at fault
-abbrev pub script_of : List ℕ → Result (List ScriptLine) ScriptFault
+abbrev pub script_of : List ℕ → Result (List AskedLine) ScriptFault
 script_of file = all_or_first_fault (map line_of (lines_of file))
 
 -- the fault of a script that a refusal tells; want of memory tells none

@@ -10,7 +10,7 @@ use Rattle.options_machine.specs.declared.reply.Kind.TheVariants.{Checkout, Chec
 use Rattle.script_words.specs.Fields.{and_then, below, client_of, name_or_fault}
 use Rattle.script_words.specs.declared.fault.ScriptWord.{ScriptWord}
 use Rattle.script_words.specs.declared.fault.ScriptWord.TheVariants.{UnknownWord, WordCount, BadVersion}
-use Rattle.script_text.specs.declared.line.ScriptLine.{ScriptLine}
+use Rattle.script_text.specs.Line.{AskedLine}
 use Rattle.script_text.specs.declared.words.Asked.{Asked}
 use Rattle.script_text.specs.declared.words.Verb.{Verb}
 use Rattle.script_text.specs.declared.words.Verb.TheVariants.{Seat, Other, Reread as Anew}
@@ -60,7 +60,7 @@ asked_of Anew word others = reread_asked word others
 
 -- the script line that the words of a line spell: `moment party user host display project VERB feature [version]`, or
 -- `moment party user host display project REREAD number`
-abbrev pub line_of_words : ℕ → List (List ℕ) → Result ScriptLine ScriptWord
+abbrev pub line_of_words : ℕ → List (List ℕ) → Result AskedLine ScriptWord
 line_of_words line (moment ∷ party ∷ user ∷ host ∷ display ∷ project ∷ verb ∷ word ∷ others) =
     and_then (below MOMENT_END (number_of moment)) (λ at.
     and_then (below PARTY_LIMIT (number_of party)) (λ asker.

@@ -13,7 +13,7 @@ use script_words::ScriptFault;
 use std::alloc::Global;
 
 /// The script line of a logical line.
-fn read_line(line: Result<Line<'_>, TextFault>) -> Result<ScriptLine, ScriptFault>
+fn read_line(line: Result<Line<'_>, TextFault>) -> Result<ScriptLine<'_>, ScriptFault>
     ensures line { result ≡ line_of (item_view line.entry) }
     ensures fit { IfOk result (λ line. is_fit line ≡ true) }
 {
@@ -35,7 +35,7 @@ fn read_line(line: Result<Line<'_>, TextFault>) -> Result<ScriptLine, ScriptFaul
 ///
 /// in just these capitals. The moment is in seconds since 1970-01-01 UTC and below 2^40, the party is below 256, and
 /// the number is that of a rule set, below 2^32. STATUS asks for the numbers of the pool (`Kind::Count`). The grammar
-/// is this project's own.
+/// is this project's own. The names of a line stay slices of the script, which is kept as long as its lines are.
 ///
 /// `Fault` comes exactly where a line is at fault, and names the first such line. Its faults are tried in this order:
 ///
@@ -50,7 +50,7 @@ fn read_line(line: Result<Line<'_>, TextFault>) -> Result<ScriptLine, ScriptFaul
 /// 6. `BadVersion` for a version that is none.
 ///
 /// `NoMemory` comes where there is too little memory to hold the lines.
-pub fn read_script(alloc: Global, file: &[u8]) -> Result<Vec<ScriptLine>, ScriptRefusal>
+pub fn read_script(alloc: Global, file: &[u8]) -> Result<Vec<ScriptLine<'_>>, ScriptRefusal>
     requires { length file.now < 2 ^ 32 }
     ensures script { Reads (λ script. script.items) fault_told (script_of file.now) result }
     ensures fit { IfOk result (λ script. list_all is_fit script.items ≡ true) }

@@ -6,9 +6,9 @@ ghost use Rattle.script_text.specs.Words.{asked_of, line_of_words, other_asked, 
 
 use crate::line::ScriptLine;
 use lic_text::Words;
-use lic_types::{MOMENT_END, Name, PARTY_LIMIT, Version};
+use lic_types::{MOMENT_END, NameRef, PARTY_LIMIT, Version};
 use options_machine::Kind;
-use script_words::{ScriptWord, next_word, read_below, read_client, read_name};
+use script_words::{ScriptWord, next_word, read_below, read_client_ref, read_name};
 
 /// The numbers of rule sets are below this.
 const SET_END: u64 = 1 << 32;
@@ -32,10 +32,10 @@ pub(crate) enum Verb {
 }
 
 /// What a line asks, of which feature, and from which version on.
-#[derive(Clone, Copy)]
-pub(crate) struct Asked {
+#[derive(Drop)]
+pub(crate) struct Asked<'a> {
     kind: Kind,
-    feature: Option<Name>,
+    feature: Option<NameRef<'a>>,
     version: Option<Version>,
 }
 
@@ -66,7 +66,7 @@ fn read_verb(verb: &[u8]) -> Result<Verb, ScriptWord>
 }
 
 /// The version behind a feature, which is to be the last word.
-fn read_seat(kind: Kind, feature: &[u8], words: Words<'_>) -> Result<Asked, ScriptWord>
+fn read_seat<'a>(kind: Kind, feature: &'a [u8], words: Words<'a>) -> Result<Asked<'a>, ScriptWord>
     requires { is_of_seat kind ≡ true }
     ensures asked { result ≡ seat_asked kind feature.now (words_left words.entry) }
     ensures fit { IfOk result (λ asked. has_its_words asked.kind asked.feature asked.version ≡ true) }
@@ -86,7 +86,7 @@ fn read_seat(kind: Kind, feature: &[u8], words: Words<'_>) -> Result<Asked, Scri
 }
 
 /// A feature, which is to be the last word.
-fn read_other(kind: Kind, feature: &[u8], words: Words<'_>) -> Result<Asked, ScriptWord>
+fn read_other<'a>(kind: Kind, feature: &'a [u8], words: Words<'a>) -> Result<Asked<'a>, ScriptWord>
     requires { is_of_other kind ≡ true }
     ensures asked { result ≡ other_asked kind feature.now (words_left words.entry) }
     ensures fit { IfOk result (λ asked. has_its_words asked.kind asked.feature asked.version ≡ true) }
@@ -104,7 +104,7 @@ fn read_other(kind: Kind, feature: &[u8], words: Words<'_>) -> Result<Asked, Scr
 }
 
 /// The number of a rule set, which is to be the last word.
-fn read_reread(number: &[u8], words: Words<'_>) -> Result<Asked, ScriptWord>
+fn read_reread<'a>(number: &[u8], words: Words<'a>) -> Result<Asked<'a>, ScriptWord>
     ensures asked { result ≡ reread_asked number.now (words_left words.entry) }
     ensures fit { IfOk result (λ asked. has_its_words asked.kind asked.feature asked.version ≡ true) }
 {
@@ -121,7 +121,7 @@ fn read_reread(number: &[u8], words: Words<'_>) -> Result<Asked, ScriptWord>
 }
 
 /// What a line asks, of which the words behind the eighth are left.
-fn read_asked(verb: Verb, word: &[u8], words: Words<'_>) -> Result<Asked, ScriptWord>
+fn read_asked<'a>(verb: Verb, word: &'a [u8], words: Words<'a>) -> Result<Asked<'a>, ScriptWord>
     requires { is_kind_of_verb verb ≡ true }
     ensures asked { result ≡ asked_of verb word.now (words_left words.entry) }
     ensures fit { IfOk result (λ asked. has_its_words asked.kind asked.feature asked.version ≡ true) }
@@ -134,7 +134,7 @@ fn read_asked(verb: Verb, word: &[u8], words: Words<'_>) -> Result<Asked, Script
 }
 
 /// The script line that the words of a line spell, or the line's first fault.
-pub(crate) fn read_words(line: u32, words: Words<'_>) -> Result<ScriptLine, ScriptWord>
+pub(crate) fn read_words(line: u32, words: Words<'_>) -> Result<ScriptLine<'_>, ScriptWord>
     ensures line { result ≡ line_of_words line (words_left words.entry) }
     ensures fit { IfOk result (λ line. is_fit line ≡ true) }
 {
@@ -149,13 +149,13 @@ pub(crate) fn read_words(line: u32, words: Words<'_>) -> Result<ScriptLine, Scri
     let word = next_word(&mut words)?;
     let moment = read_below(moment, MOMENT_END)?;
     let party = read_below(party, PARTY_LIMIT as u64)?;
-    let client = read_client(user, host, display, project)?;
+    let client = read_client_ref(user, host, display, project)?;
     let verb = read_verb(verb)?;
     let asked = read_asked(verb, word, words)?;
     Ok(ScriptLine {
         line,
-        moment,
         party: party as u32,
+        moment,
         client,
         kind: asked.kind,
         feature: asked.feature,

@@ -9,29 +9,29 @@ use Rattle.options_machine.specs.State.{State, opening}
 use Rattle.options_machine.specs.Step.{set_asked, step}
 use Rattle.options_machine.proofs.Quits.{standing-snoc}
 use Rattle.options_machine.proofs.Runs.{after-snoc, run_more}
-use Rattle.script_text.specs.declared.line.ScriptLine.{ScriptLine}
+use Rattle.script_text.specs.Line.{AskedLine}
 use Rattle.scripts.specs.PoolRuns.{says_place}
 use Rattle.scripts.specs.Script.{entry_of, request_of}
 use Rattle.options_machine.proofs.Moments.{moved_later, moved_within, step_again, step_now}
 
 -- the state after the entry that a line makes
-pub after_entry_of : (sets : List Rules) (h : List Entry) (line : ScriptLine) → (after sets h).now < 2 ^ 40 → after sets (h ++ entry_of sets h line ∷ []) ≡ (step sets (after sets h) (request_of line) line.moment).1
+pub after_entry_of : (sets : List Rules) (h : List Entry) (line : AskedLine) → (after sets h).now < 2 ^ 40 → after sets (h ++ entry_of sets h line ∷ []) ≡ (step sets (after sets h) (request_of line) line.moment).1
 after_entry_of sets h line small =
     after-snoc sets opening h (entry_of sets h line) ∙ ap (λ (served : Reply × State). served.1) (step_again sets (after sets h) (request_of line) line.moment small)
 
 -- its moment
-pub now_after : (sets : List Rules) (h : List Entry) (line : ScriptLine) → (after sets h).now < 2 ^ 40 → (after sets (h ++ entry_of sets h line ∷ [])).now < 2 ^ 40
+pub now_after : (sets : List Rules) (h : List Entry) (line : AskedLine) → (after sets h).now < 2 ^ 40 → (after sets (h ++ entry_of sets h line ∷ [])).now < 2 ^ 40
 now_after sets h line small =
     let now : (after sets (h ++ entry_of sets h line ∷ [])).now ≡ later_moment (after sets h).now line.moment =
     ap (λ (s : State). s.now) (after_entry_of sets h line small) ∙ step_now sets (after sets h) (request_of line) line.moment in
     rw now (moved_within (after sets h).now line.moment small)
 
 -- its reply
-pub reply_of_entry : (sets : List Rules) (h : List Entry) (line : ScriptLine) → (after sets h).now < 2 ^ 40 → (entry_of sets h line).reply ≡ (step sets (after sets h) (request_of line) line.moment).0
+pub reply_of_entry : (sets : List Rules) (h : List Entry) (line : AskedLine) → (after sets h).now < 2 ^ 40 → (entry_of sets h line).reply ≡ (step sets (after sets h) (request_of line) line.moment).0
 reply_of_entry sets h line small = ap (λ (served : Reply × State). served.0) (step_again sets (after sets h) (request_of line) line.moment small)
 
 -- the run goes on
-pub entry_follows : (sets : List Rules) (h : List Entry) (line : ScriptLine) → (after sets h).now < 2 ^ 40 → IsBelow (set_asked line.kind) (length sets) → IsRun sets h → IsRun sets (h ++ entry_of sets h line ∷ [])
+pub entry_follows : (sets : List Rules) (h : List Entry) (line : AskedLine) → (after sets h).now < 2 ^ 40 → IsBelow (set_asked line.kind) (length sets) → IsRun sets h → IsRun sets (h ++ entry_of sets h line ∷ [])
 entry_follows sets h line small asks run = run_more sets opening h (entry_of sets h line) run (record {
   later = moved_later (after sets h).now line.moment;
   within = moved_within (after sets h).now line.moment small;

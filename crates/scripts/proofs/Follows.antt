@@ -12,7 +12,7 @@ use Rattle.options_machine.specs.Step.{set_asked, step}
 use Rattle.options_machine.specs.declared.reply.Reply.{Reply}
 use Rattle.options_text.specs.Options.{OptionsFile}
 use Rattle.policy.specs.Pools.{rules_of}
-use Rattle.script_text.specs.declared.line.ScriptLine.{ScriptLine}
+use Rattle.script_text.specs.Line.{AskedLine}
 use Rattle.scripts.specs.Ledgers.{Ledger, new_ledger, new_ledgers}
 use Rattle.scripts.specs.Played.{AreRunsOf, IsRunOf}
 use Rattle.scripts.specs.PoolRuns.{entered_at, is_ready, places_with, run_of, run_walk, served_at}
@@ -24,7 +24,7 @@ use Rattle.scripts.proofs.Entries.{after_entry_of, now_after, reply_of_entry}
 use Rattle.scripts.proofs.Places.{length_moved, places_then}
 use Rattle.scripts.proofs.Walks.{both_go, same_answer}
 
-module _ (sets lines : ℕ) (line : ScriptLine) (r : PoolRun) (l : Ledger) where
+module _ (sets lines : ℕ) (line : AskedLine) (r : PoolRun) (l : Ledger) where
   -- the book answers by the ledger
   served_same : IsRunOf sets lines r l → served_at line r ≡ step l.sets (after l.sets l.run) (request_of line) line.moment
   unfolding served_at
@@ -75,7 +75,7 @@ module _ (sets lines : ℕ) (line : ScriptLine) (r : PoolRun) (l : Ledger) where
     kept = k.kept;
   }
 
-module _ (sets lines : ℕ) (line : ScriptLine) (within : line.party < 256) (rs : List PoolRun) (ls : List Ledger) where
+module _ (sets lines : ℕ) (line : AskedLine) (within : line.party < 256) (rs : List PoolRun) (ls : List Ledger) where
   -- a line is answered at the runs as at the ledgers
   pub answered_same : AreRunsOf sets lines rs ls → line_answer run_walk sets rs line ≡ line_answer ledger_walk sets ls line
   answered_same k =

@@ -8,7 +8,7 @@ use Rattle.options_machine.specs.Step.{set_asked}
 use Rattle.options_machine.specs.declared.reply.Entry.{Entry}
 use Rattle.options_text.specs.Options.{OptionsFile}
 use Rattle.policy.specs.Pools.{rules_of}
-use Rattle.script_text.specs.declared.line.ScriptLine.{ScriptLine}
+use Rattle.script_text.specs.Line.{AskedLine}
 use Rattle.scripts.specs.Ledgers.{Ledger, new_ledgers}
 use Rattle.scripts.specs.Script.{with_entry_of, entry_of, ledger_walk, ledgers_of}
 use Rattle.scripts.specs.Walk.{after_line, after_lines}
@@ -40,7 +40,7 @@ module _ (files : List OptionsFile) where
     good = λ k. h.good (g.good k);
   }
 
-  good_on : (line : ScriptLine) (l : Ledger) → IsBelow (set_asked line.kind) (length files) → IsGood files l → IsGood files (with_entry_of line l)
+  good_on : (line : AskedLine) (l : Ledger) → IsBelow (set_asked line.kind) (length files) → IsGood files l → IsGood files (with_entry_of line l)
   good_on line l asks k =
       let many : length l.sets ≡ length files = ap length k.rules ∙ length-map files (rules_of l.pool) in
       record {
@@ -49,18 +49,18 @@ module _ (files : List OptionsFile) where
         rules = k.rules;
       }
 
-  enters : (line : ScriptLine) (l : Ledger) → IsBelow (set_asked line.kind) (length files) → GoesOn files l (with_entry_of line l)
+  enters : (line : AskedLine) (l : Ledger) → IsBelow (set_asked line.kind) (length files) → GoesOn files l (with_entry_of line l)
   enters line l asks = record { pool = refl; rest = entry_of l.sets l.run line ∷ []; run = refl; good = good_on line l asks }
 
   -- the ledgers that lines leave go on from those before them
-  pub all_go_on : (ls : List Ledger) (lines : List ScriptLine) → AllZip (GoesOn files) ls (after_lines ledger_walk (length files) ls lines)
+  pub all_go_on : (ls : List Ledger) (lines : List AskedLine) → AllZip (GoesOn files) ls (after_lines ledger_walk (length files) ls lines)
   all_go_on ls lines = lines_go ledger_walk (length files) (GoesOn files) stays further enters ls lines
 
   pools_stay : (ls ms : List Ledger) → AllZip (GoesOn files) ls ms → map (λ (l : Ledger). l.pool) ms ≡ map (λ (l : Ledger). l.pool) ls
   pools_stay ls ms k = sym (same_map (GoesOn files) (λ (l : Ledger). l.pool) (λ (l : Ledger). l.pool) (λ old new g. g.pool) ls ms k)
 
   -- a line changes no pool
-  pub same_pools : (ls : List Ledger) (line : ScriptLine) → map (λ (l : Ledger). l.pool) (after_line ledger_walk (length files) ls line) ≡ map (λ (l : Ledger). l.pool) ls
+  pub same_pools : (ls : List Ledger) (line : AskedLine) → map (λ (l : Ledger). l.pool) (after_line ledger_walk (length files) ls line) ≡ map (λ (l : Ledger). l.pool) ls
   same_pools ls line = pools_stay ls (after_line ledger_walk (length files) ls line) (line_goes ledger_walk (length files) (GoesOn files) stays further enters ls line)
 
   -- the ledgers begin with the pools
@@ -69,5 +69,5 @@ module _ (files : List OptionsFile) where
   opened_pools (pool ∷ pools) = ap (λ (ps : List Pool). pool ∷ ps) (opened_pools pools)
 
 -- a script makes one history at each pool
-pub scripts_pooled : (pools : List Pool) (files : List OptionsFile) (lines : List ScriptLine) → map (λ (l : Ledger). l.pool) (ledgers_of pools files lines) ≡ pools
+pub scripts_pooled : (pools : List Pool) (files : List OptionsFile) (lines : List AskedLine) → map (λ (l : Ledger). l.pool) (ledgers_of pools files lines) ≡ pools
 scripts_pooled pools files lines = pools_stay files (new_ledgers pools files) (ledgers_of pools files lines) (all_go_on files (new_ledgers pools files) lines) ∙ opened_pools files pools

@@ -12,7 +12,7 @@ use Rattle.options_text.specs.Options.{OptionsFile}
 use Rattle.outside.specs.Told.{Wrote}
 use Rattle.outside.specs.declared.sink.WriteFailed.{WriteFailed}
 use Rattle.script_text.specs.Fits.{has_its_words, is_fit}
-use Rattle.script_text.specs.declared.line.ScriptLine.{ScriptLine}
+use Rattle.script_text.specs.Line.{AskedLine}
 use Rattle.scripts.specs.Answers.{answer_text}
 use Rattle.scripts.specs.Ledgers.{Ledger, new_ledgers}
 use Rattle.scripts.specs.Played.{AreRunsOf, IsPlayed, IsReached, IsRunOf}
@@ -30,11 +30,11 @@ use Rattle.scripts.proofs.Walks.{same_map}
 use Rattle.scripts.proofs.Writes.{all_left, left_more, left_over, left_same, wrote_rest}
 
 -- the line at a place, and those behind it
-pub next_line : (lines : List ScriptLine) (i : ℕ) (line : ScriptLine) → i < length lines → line ≡ get_or lines i line → drop i lines ≡ line ∷ drop (i + 1) lines
-next_line lines i line h is = rw (add-one, drop-cons lines i line) (ap (λ (l : ScriptLine). l ∷ drop (suc i) lines) (sym is))
+pub next_line : (lines : List AskedLine) (i : ℕ) (line : AskedLine) → i < length lines → line ≡ get_or lines i line → drop i lines ≡ line ∷ drop (i + 1) lines
+next_line lines i line h is = rw (add-one, drop-cons lines i line) (ap (λ (l : AskedLine). l ∷ drop (suc i) lines) (sym is))
 
 -- its party is one of the 256
-pub party_within : (lines : List ScriptLine) (i : ℕ) (line : ScriptLine) → list_all is_fit lines ≡ true → i < length lines → line ≡ get_or lines i line → line.party < 256
+pub party_within : (lines : List AskedLine) (i : ℕ) (line : AskedLine) → list_all is_fit lines ≡ true → i < length lines → line ≡ get_or lines i line → line.party < 256
 party_within lines i line fit h is =
     let here : is_fit line ≡ true = ap is_fit is ∙ one_of_all is_fit lines i line fit h in
     let more : (ltb line.party 256 && has_its_words line.kind line.feature line.version) ≡ true =
@@ -51,7 +51,7 @@ module _ (files : List OptionsFile) (pools : List Pool) where
   }
 
   -- a line more was entered
-  abbrev reached_more : (lines : ℕ) (rs : List PoolRun) (line : ScriptLine) → line.party < 256 → IsReached (length files) lines pools rs → IsReached (length files) (lines + 1) pools (after_line run_walk (length files) rs line)
+  abbrev reached_more : (lines : ℕ) (rs : List PoolRun) (line : AskedLine) → line.party < 256 → IsReached (length files) lines pools rs → IsReached (length files) (lines + 1) pools (after_line run_walk (length files) rs line)
   reached_more lines rs line within k = record {
     ledgers = after_line ledger_walk (length files) k.ledgers line;
     pooled = same_pools files k.ledgers line ∙ k.pooled;
@@ -69,12 +69,12 @@ pools_then {sets} {lines} {pools} {rs} k = same_map (IsRunOf sets lines) (λ (r 
 -- Writing the output lines.
 
 -- a script that begins
-pub begins : {S : Type 0} (held : S → Option (List ℕ)) (faults : S → ℕ) (files : List OptionsFile) (pools : List Pool) (rs : List PoolRun) (lines : List ScriptLine) (now : S) → rs ≡ map (run_of files) pools
+pub begins : {S : Type 0} (held : S → Option (List ℕ)) (faults : S → ℕ) (files : List OptionsFile) (pools : List Pool) (rs : List PoolRun) (lines : List AskedLine) (now : S) → rs ≡ map (run_of files) pools
     → IsPlayed held faults (length files) 0 pools rs lines now now [] (output_of pools files lines)
 begins held faults files pools rs lines now is = record { reached = reached_first files pools rs is; text = all_left now (output_of pools files lines) }
 
 -- the text that is left begins with the line's own
-left_now : (files : List OptionsFile) {lines : ℕ} {pools : List Pool} {rs : List PoolRun} (line : ScriptLine) {left : List ScriptLine} (rest : List ScriptLine) → line.party < 256 → left ≡ line ∷ rest
+left_now : (files : List OptionsFile) {lines : ℕ} {pools : List Pool} {rs : List PoolRun} (line : AskedLine) {left : List AskedLine} (rest : List AskedLine) → line.party < 256 → left ≡ line ∷ rest
     → (answer : Answer) → answer ≡ line_answer run_walk (length files) rs line → (k : IsReached (length files) lines pools rs)
     → output_from ledger_walk (length files) k.ledgers left ≡ answer_text answer ++ output_from ledger_walk (length files) (after_line ledger_walk (length files) k.ledgers line) rest
 left_now files {lines} {pools} {rs} line rest within next answer is k =
@@ -82,7 +82,7 @@ left_now files {lines} {pools} {rs} line rest within next answer is k =
     ∙ ap (λ (a : Answer). answer_text a ++ output_from ledger_walk (length files) (after_line ledger_walk (length files) k.ledgers line) rest)
     (sym (is ∙ answered_same (length files) lines line within rs k.ledgers k.follow))
 
-module _ {S : Type 0} {held : S → Option (List ℕ)} {faults : S → ℕ} (files : List OptionsFile) {pools : List Pool} {lines : ℕ} {rs : List PoolRun} (line : ScriptLine) {left : List ScriptLine} (rest : List ScriptLine)
+module _ {S : Type 0} {held : S → Option (List ℕ)} {faults : S → ℕ} (files : List OptionsFile) {pools : List Pool} {lines : ℕ} {rs : List PoolRun} (line : AskedLine) {left : List AskedLine} (rest : List AskedLine)
     {old now : S} {gathered whole : List ℕ} (within : line.party < 256) (next : left ≡ line ∷ rest) (answer : Answer) (is : answer ≡ line_answer run_walk (length files) rs line)
     (k : IsPlayed held faults (length files) lines pools rs left old now gathered whole) where
   -- a line more was played, and its output line gathered
@@ -98,7 +98,7 @@ module _ {S : Type 0} {held : S → Option (List ℕ)} {faults : S → ℕ} (fil
             k.text;
       }
 
-module _ {S : Type 0} {held : S → Option (List ℕ)} {faults : S → ℕ} {sets lines : ℕ} {pools : List Pool} {rs : List PoolRun} {left : List ScriptLine} {old now new : S} {gathered whole : List ℕ}
+module _ {S : Type 0} {held : S → Option (List ℕ)} {faults : S → ℕ} {sets lines : ℕ} {pools : List Pool} {rs : List PoolRun} {left : List AskedLine} {old now new : S} {gathered whole : List ℕ}
     (k : IsPlayed held faults sets lines pools rs left old now gathered whole) where
   -- some of what was gathered was written
   pub played_written : {more : List ℕ} {u : Unit {0}} (written : List ℕ) → gathered ≡ written ++ more → Wrote held faults now new written (Ok u) → IsPlayed held faults sets lines pools rs left old new more whole
@@ -114,19 +114,19 @@ module _ {S : Type 0} {held : S → Option (List ℕ)} {faults : S → ℕ} {set
 
   -- where no line is left, all that was gathered is written
   pub played_all : (result : Result (Unit {0}) WriteFailed) → left ≡ [] → Wrote held faults now new gathered result → Wrote held faults old new whole result
-  played_all result none w = wrote_rest result k.text (ap (λ (ls : List ScriptLine). gathered ++ output_from ledger_walk sets k.reached.ledgers ls) none) w
+  played_all result none w = wrote_rest result k.text (ap (λ (ls : List AskedLine). gathered ++ output_from ledger_walk sets k.reached.ledgers ls) none) w
 
 -- Entering the lines for a report.
 
 -- where a script stands after so many lines, and the lines that are left
-pub record IsEntered (sets lines : ℕ) (pools : List Pool) (runs : List PoolRun) (left : List ScriptLine) (whole : List Ledger) : Type 0 where
+pub record IsEntered (sets lines : ℕ) (pools : List Pool) (runs : List PoolRun) (left : List AskedLine) (whole : List Ledger) : Type 0 where
   pub reached : IsReached sets lines pools runs
   pub all : after_lines ledger_walk sets reached.ledgers left ≡ whole
 
-pub enters : (files : List OptionsFile) (pools : List Pool) (rs : List PoolRun) (lines : List ScriptLine) → rs ≡ map (run_of files) pools → IsEntered (length files) 0 pools rs lines (ledgers_of pools files lines)
+pub enters : (files : List OptionsFile) (pools : List Pool) (rs : List PoolRun) (lines : List AskedLine) → rs ≡ map (run_of files) pools → IsEntered (length files) 0 pools rs lines (ledgers_of pools files lines)
 enters files pools rs lines is = record { reached = reached_first files pools rs is; all = refl }
 
-pub entered_more : (files : List OptionsFile) {lines : ℕ} {pools : List Pool} {rs : List PoolRun} (line : ScriptLine) {left : List ScriptLine} (rest : List ScriptLine) {whole : List Ledger}
+pub entered_more : (files : List OptionsFile) {lines : ℕ} {pools : List Pool} {rs : List PoolRun} (line : AskedLine) {left : List AskedLine} (rest : List AskedLine) {whole : List Ledger}
     → line.party < 256 → left ≡ line ∷ rest → IsEntered (length files) lines pools rs left whole → IsEntered (length files) (lines + 1) pools (after_line run_walk (length files) rs line) rest whole
 entered_more files {lines} {pools} {rs} line rest within next k = record {
   reached = reached_more files pools lines rs line within k.reached;
@@ -134,7 +134,7 @@ entered_more files {lines} {pools} {rs} line rest within next k = record {
 }
 
 -- where no line is left, the runs stand where the script leaves the ledgers
-pub all_entered : (sets lines : ℕ) (pools : List Pool) (rs : List PoolRun) (left : List ScriptLine) (whole : List Ledger) → left ≡ [] → IsEntered sets lines pools rs left whole → AreRunsOf sets lines rs whole
+pub all_entered : (sets lines : ℕ) (pools : List Pool) (rs : List PoolRun) (left : List AskedLine) (whole : List Ledger) → left ≡ [] → IsEntered sets lines pools rs left whole → AreRunsOf sets lines rs whole
 all_entered sets lines pools rs left whole none k =
     subst (λ (ls : List Ledger). AreRunsOf sets lines rs ls) (sym (ap (after_lines ledger_walk sets k.reached.ledgers) none) ∙ k.all) k.reached.follow
 

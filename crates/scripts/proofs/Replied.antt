@@ -6,7 +6,7 @@ use Rattle.feature_lines.specs.declared.route.Found.TheVariants.{Pool as At, Unk
 use Rattle.options_machine.specs.Step.{set_asked}
 use Rattle.options_machine.specs.declared.reply.Entry.{Entry}
 use Rattle.options_text.specs.Options.{OptionsFile}
-use Rattle.script_text.specs.declared.line.ScriptLine.{ScriptLine}
+use Rattle.script_text.specs.Line.{AskedLine}
 use Rattle.scripts.specs.Answers.{answer_text}
 use Rattle.scripts.specs.Laws.{AnswersLine, AreAnswered, IsAnswered}
 use Rattle.scripts.specs.Ledgers.{Ledger}
@@ -28,7 +28,7 @@ later files zero (x ∷ ls) (w ∷ ws) l k e = let same : x ≡ l = cc in record
 later files (suc at) (x ∷ ls) [] l k e = absurd k
 later files (suc at) (x ∷ ls) (w ∷ ws) l k e = let found = later files at ls ws l k.1 e in record { ledger = found.ledger; there = found.there; goes = found.goes }
 
-at_changed : (line : ScriptLine) (at : ℕ) (ls : List Ledger) (l : Ledger) → slice_get ls at ≡ Some l → slice_get (changed_at at (with_entry_of line) ls) at ≡ Some (with_entry_of line l)
+at_changed : (line : AskedLine) (at : ℕ) (ls : List Ledger) (l : Ledger) → slice_get ls at ≡ Some l → slice_get (changed_at at (with_entry_of line) ls) at ≡ Some (with_entry_of line l)
 at_changed line at [] l e = absurd cc
 at_changed line zero (x ∷ ls) l e = let same : x ≡ l = cc in ap (λ (y : Ledger). Some (with_entry_of line y)) same
 at_changed line (suc at) (x ∷ ls) l e = at_changed line at ls l e
@@ -43,7 +43,7 @@ behind [] e rest = refl
 behind (x ∷ h) e rest = behind h e rest
 
 -- the output line of a script line that went there
-answered : (files : List OptionsFile) (whole ls : List Ledger) (line : ScriptLine) (found : Found) → IsThere (length ls) found → AllZip (GoesOn files) (after_sent ledger_walk ls line found) whole
+answered : (files : List OptionsFile) (whole ls : List Ledger) (line : AskedLine) (found : Found) → IsThere (length ls) found → AllZip (GoesOn files) (after_sent ledger_walk ls line found) whole
     → IsAnswered whole (answer_text (sent_answer ledger_walk ls line found)) found
 answered files whole ls line (At at) h k =
     let (l, is) = within at ls h in
@@ -60,12 +60,12 @@ answered files whole ls line (At at) h k =
 answered files whole ls line Unknown h k = tt
 answered files whole ls line (Expired day) h k = tt
 
-asked_answered : (files : List OptionsFile) (whole ls : List Ledger) (line : ScriptLine) (asked : Option ℕ) → AllZip (GoesOn files) (after_asked ledger_walk (length files) ls line asked) whole → AnswersLine whole ls line asked
+asked_answered : (files : List OptionsFile) (whole ls : List Ledger) (line : AskedLine) (asked : Option ℕ) → AllZip (GoesOn files) (after_asked ledger_walk (length files) ls line asked) whole → AnswersLine whole ls line asked
 asked_answered files whole ls line None k = answered files whole ls line (destination ledger_walk ls line line.feature) (sent_there ledger_walk ls line line.feature) k
 asked_answered files whole ls line (Some n) k = tt
 
 -- the output lines of script lines
-pub all_answered : (files : List OptionsFile) (ls : List Ledger) (lines : List ScriptLine) → AreAnswered (length files) (after_lines ledger_walk (length files) ls lines) ls lines
+pub all_answered : (files : List OptionsFile) (ls : List Ledger) (lines : List AskedLine) → AreAnswered (length files) (after_lines ledger_walk (length files) ls lines) ls lines
 all_answered files ls [] = tt
 all_answered files ls (line ∷ lines) =
     let next = after_line ledger_walk (length files) ls line in

@@ -8,7 +8,7 @@ use Rattle.options_machine.proofs.Runs.{run_lawful}
 use Rattle.options_machine.specs.Law.{AreSets}
 use Rattle.options_machine.specs.Rules.{Rules}
 use Rattle.options_text.specs.Options.{OptionsFile}
-use Rattle.script_text.specs.declared.line.ScriptLine.{ScriptLine}
+use Rattle.script_text.specs.Line.{AskedLine}
 use Rattle.scripts.specs.Laws.{AreLawful, AreOrderly, AreRuns}
 use Rattle.scripts.specs.Ledgers.{Ledger, new_ledgers}
 use Rattle.scripts.specs.Script.{ledgers_of}
@@ -30,7 +30,7 @@ all_good files (l ∷ ls) [] g k = absurd g
 all_good files (l ∷ ls) (m ∷ ms) g k = (g.0.good k.0, all_good files ls ms g.1 k.1)
 
 -- the ledgers of a script are good
-script_good : (pools : List Pool) (files : List OptionsFile) (lines : List ScriptLine) → AllGood files (ledgers_of pools files lines)
+script_good : (pools : List Pool) (files : List OptionsFile) (lines : List AskedLine) → AllGood files (ledgers_of pools files lines)
 script_good pools files lines = all_good files (new_ledgers pools files) (ledgers_of pools files lines) (all_go_on files (new_ledgers pools files) lines) (all_begin files pools)
 
 all_run : (files : List OptionsFile) (ls : List Ledger) → AllGood files ls → AreRuns ls
@@ -38,7 +38,7 @@ all_run files [] k = tt
 all_run files (l ∷ ls) k = (k.0.run, all_run files ls k.1)
 
 -- the entries that a script makes at each pool are a run
-pub scripts_run : (pools : List Pool) (files : List OptionsFile) (lines : List ScriptLine) → AreRuns (ledgers_of pools files lines)
+pub scripts_run : (pools : List Pool) (files : List OptionsFile) (lines : List AskedLine) → AreRuns (ledgers_of pools files lines)
 scripts_run pools files lines = all_run files (ledgers_of pools files lines) (script_good pools files lines)
 
 is_short : (p : Pool) → has_licences p ≡ true → p.count < 2 ^ 32
@@ -54,7 +54,7 @@ all_lawful files (l ∷ ls) some few orderly has k =
     )
 
 -- the state that a script leaves at each pool is lawful
-pub scripts_lawful : (pools : List Pool) (files : List OptionsFile) (lines : List ScriptLine) → 0 < length files → length files ≤ 4 → AreOrderly files → list_all has_licences pools ≡ true
+pub scripts_lawful : (pools : List Pool) (files : List OptionsFile) (lines : List AskedLine) → 0 < length files → length files ≤ 4 → AreOrderly files → list_all has_licences pools ≡ true
     → AreLawful (ledgers_of pools files lines)
 scripts_lawful pools files lines some few orderly has =
     let same = scripts_pooled pools files lines in

@@ -10,7 +10,7 @@ use Rattle.options_machine.specs.State.{State}
 use Rattle.options_machine.specs.Step.{set_asked}
 use Rattle.options_machine.specs.declared.reply.Reply.{Reply}
 use Rattle.seat_book.specs.Books.{BookWithGrants}
-use Rattle.script_text.specs.declared.line.ScriptLine.{ScriptLine}
+use Rattle.script_text.specs.Line.{AskedLine}
 use Rattle.scripts.specs.PoolRuns.{entered_at, is_ready, places_with, served_at}
 use Rattle.scripts.specs.Script.{request_of}
 use Rattle.scripts.specs.Walk.{changed_at}
@@ -30,7 +30,7 @@ abbrev pub grants_with : ℕ → Reply → ℕ
 grants_with grants reply = (grants + (if brings_seat reply then 1 else 0)) % 2 ^ 64
 
 -- a run after a step of its book
-pub entered_by : (line : ScriptLine) (d : PoolRun) (book : BookWithGrants) (places : List Bool) (reply : Reply) → (reply, book.state) ≡ served_at line d → book.sets ≡ d.book.sets → book.parties ≡ d.book.parties
+pub entered_by : (line : AskedLine) (d : PoolRun) (book : BookWithGrants) (places : List Bool) (reply : Reply) → (reply, book.state) ≡ served_at line d → book.sets ≡ d.book.sets → book.parties ≡ d.book.parties
     → book.grants ≡ grants_with d.book.grants reply → places ≡ places_with d.places line reply → record { pool = d.pool; book = book; entries = d.entries + 1; places = places } ≡ entered_at line d
 entered_by line d book places reply served sets parties counted moved =
     let state : book.state ≡ (served_at line d).1 = ap (λ (r : Reply × State). r.1) served in
@@ -75,12 +75,12 @@ changed_more f i old now d new h is e =
     ∙ rw add-one (next_changed f i old d h)))
 
 -- what a run that is ready has
-pub record CanTake (sets : ℕ) (line : ScriptLine) (d : PoolRun) : Type 0 where
+pub record CanTake (sets : ℕ) (line : AskedLine) (d : PoolRun) : Type 0 where
   pub parties : d.book.parties ≡ 256
   pub fits : AsksForSet d.book.sets (request_of line)
   pub few : d.entries < 2 ^ 64 - 1
 
-pub can_take : (sets : ℕ) (line : ScriptLine) (d : PoolRun) → IsBelow (set_asked line.kind) sets → is_ready sets d ≡ true → CanTake sets line d
+pub can_take : (sets : ℕ) (line : AskedLine) (d : PoolRun) → IsBelow (set_asked line.kind) sets → is_ready sets d ≡ true → CanTake sets line d
 can_take sets line d asks ready =
     let rest : (eqb (length d.book.sets) sets && ltb d.entries (2 ^ 64 - 1)) ≡ true = and_right (eqb d.book.parties 256) (eqb (length d.book.sets) sets && ltb d.entries (2 ^ 64 - 1)) ready in
     let many : length d.book.sets ≡ sets = eqb-true (length d.book.sets) sets (and_left (eqb (length d.book.sets) sets) (ltb d.entries (2 ^ 64 - 1)) rest) in
@@ -91,7 +91,7 @@ can_take sets line d asks ready =
     }
 
 -- the next run is ready, where those before it were entered
-pub next_can_take : (sets : ℕ) (line : ScriptLine) (i : ℕ) (old now : List PoolRun) (d : PoolRun) → IsBelow (set_asked line.kind) sets → list_all (is_ready sets) old ≡ true → i < length old
+pub next_can_take : (sets : ℕ) (line : AskedLine) (i : ℕ) (old now : List PoolRun) (d : PoolRun) → IsBelow (set_asked line.kind) sets → list_all (is_ready sets) old ≡ true → i < length old
     → now ≡ changed_to (entered_at line) i old → CanTake sets line (get_or now i d)
 next_can_take sets line i old now d asks ready h is =
     can_take sets line (get_or now i d) asks

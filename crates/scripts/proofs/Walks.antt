@@ -13,7 +13,7 @@ use Rattle.lic_types.specs.declared.day.Expiry.TheVariants.{Never, On}
 use Rattle.lic_types.specs.declared.version.Version.{Version}
 use Rattle.options_machine.specs.Run.{IsBelow}
 use Rattle.options_machine.specs.Step.{set_asked}
-use Rattle.script_text.specs.declared.line.ScriptLine.{ScriptLine}
+use Rattle.script_text.specs.Line.{AskedLine}
 use Rattle.scripts.specs.Walk.{IsThere, Walk, after_asked, after_line, after_lines, after_sent, asked_answer, changed_at, entry_answer, found_or, is_kept, is_named, line_answer, found_by_route, destination, sent_answer}
 
 within_or : (i n at : ℕ) (b : Bool) (rest : Option ℕ) → (rest ≡ Some at → at < i + 1 + n) → cond b (Some i) rest ≡ Some at → at < i + suc n
@@ -48,7 +48,7 @@ module _ {X : Type 0} (walk : Walk X) where
       subst (λ (n : ℕ). IsThere n (route (map walk.pool xs) name version.key moment)) (length-map xs walk.pool) (route_there (map walk.pool xs) name version.key moment)
 
   -- where a line goes, there is a pool
-  pub sent_there : (xs : List X) (line : ScriptLine) (feature : Option (List ℕ)) → IsThere (length xs) (destination walk xs line feature)
+  pub sent_there : (xs : List X) (line : AskedLine) (feature : Option (List ℕ)) → IsThere (length xs) (destination walk xs line feature)
   sent_there xs line None = tt
   sent_there xs line (Some name) = found_there (is_kept walk name line.party) xs _ (there_by xs name line.moment line.version) _ refl
 
@@ -61,7 +61,7 @@ same_map R f g same (x ∷ xs) (y ∷ ys) k = ap (λ (z : _). z ∷ map f xs) (s
 
 -- a relation that stands where nothing is done, is made by each entry and leads on stands between what is at each pool before lines and behind them
 module _ {X : Type 0} (walk : Walk X) (sets : ℕ) (R : X → X → Type 0) (stays : (x : X) → R x x) (further : (x y z : X) → R x y → R y z → R x z)
-    (enters : (line : ScriptLine) (x : X) → IsBelow (set_asked line.kind) sets → R x (walk.entered line x)) where
+    (enters : (line : AskedLine) (x : X) → IsBelow (set_asked line.kind) sets → R x (walk.entered line x)) where
   all_stay : (xs : List X) → AllZip R xs xs
   all_stay [] = tt
   all_stay (x ∷ xs) = (stays x, all_stay xs)
@@ -74,37 +74,37 @@ module _ {X : Type 0} (walk : Walk X) (sets : ℕ) (R : X → X → Type 0) (sta
   all_further (x ∷ xs) (y ∷ ys) [] g h = absurd h
   all_further (x ∷ xs) (y ∷ ys) (z ∷ zs) g h = (further x y z g.0 h.0, all_further xs ys zs g.1 h.1)
 
-  one_entered : (line : ScriptLine) → IsBelow (set_asked line.kind) sets → (at : ℕ) (xs : List X) → AllZip R xs (changed_at at (walk.entered line) xs)
+  one_entered : (line : AskedLine) → IsBelow (set_asked line.kind) sets → (at : ℕ) (xs : List X) → AllZip R xs (changed_at at (walk.entered line) xs)
   one_entered line fits at [] = tt
   one_entered line fits zero (x ∷ xs) = (enters line x fits, all_stay xs)
   one_entered line fits (suc at) (x ∷ xs) = (stays x, one_entered line fits at xs)
 
-  all_entered : (line : ScriptLine) → IsBelow (set_asked line.kind) sets → (xs : List X) → AllZip R xs (map (walk.entered line) xs)
+  all_entered : (line : AskedLine) → IsBelow (set_asked line.kind) sets → (xs : List X) → AllZip R xs (map (walk.entered line) xs)
   all_entered line fits [] = tt
   all_entered line fits (x ∷ xs) = (enters line x fits, all_entered line fits xs)
 
-  sent_goes : (line : ScriptLine) → IsBelow (set_asked line.kind) sets → (xs : List X) (found : Found) → AllZip R xs (after_sent walk xs line found)
+  sent_goes : (line : AskedLine) → IsBelow (set_asked line.kind) sets → (xs : List X) (found : Found) → AllZip R xs (after_sent walk xs line found)
   sent_goes line fits xs (At at) = one_entered line fits at xs
   sent_goes line fits xs Unknown = all_stay xs
   sent_goes line fits xs (Expired day) = all_stay xs
 
-  reread_goes : (line : ScriptLine) (n : ℕ) (xs : List X) → Some n ≡ set_asked line.kind → (b : Bool) → ltb n sets ≡ b → AllZip R xs (cond b (map (walk.entered line) xs) xs)
+  reread_goes : (line : AskedLine) (n : ℕ) (xs : List X) → Some n ≡ set_asked line.kind → (b : Bool) → ltb n sets ≡ b → AllZip R xs (cond b (map (walk.entered line) xs) xs)
   reread_goes line n xs is true below = all_entered line (subst (λ (o : Option ℕ). IsBelow o sets) is (ltb-true n sets below)) xs
   reread_goes line n xs is false below = all_stay xs
 
-  asked_goes : (line : ScriptLine) (xs : List X) (asked : Option ℕ) → asked ≡ set_asked line.kind → AllZip R xs (after_asked walk sets xs line asked)
+  asked_goes : (line : AskedLine) (xs : List X) (asked : Option ℕ) → asked ≡ set_asked line.kind → AllZip R xs (after_asked walk sets xs line asked)
   asked_goes line xs None is = sent_goes line (subst (λ (o : Option ℕ). IsBelow o sets) is tt) xs (destination walk xs line line.feature)
   asked_goes line xs (Some n) is = reread_goes line n xs is (ltb n sets) refl
 
-  pub line_goes : (xs : List X) (line : ScriptLine) → AllZip R xs (after_line walk sets xs line)
+  pub line_goes : (xs : List X) (line : AskedLine) → AllZip R xs (after_line walk sets xs line)
   line_goes xs line = asked_goes line xs (set_asked line.kind) refl
 
-  pub lines_go : (xs : List X) (lines : List ScriptLine) → AllZip R xs (after_lines walk sets xs lines)
+  pub lines_go : (xs : List X) (lines : List AskedLine) → AllZip R xs (after_lines walk sets xs lines)
   lines_go xs [] = all_stay xs
   lines_go xs (line ∷ lines) = all_further xs (after_line walk sets xs line) (after_lines walk sets (after_line walk sets xs line) lines) (line_goes xs line) (lines_go (after_line walk sets xs line) lines)
 
 -- two walks go the same way with a line, where by a relation between what stands at the pools in both each knows the same of a pool, and that leads to a second relation where an entry is made in both, and where none is
-module _ {X Y : Type 0} (v : Walk X) (w : Walk Y) (line : ScriptLine) (R S : X → Y → Type 0)
+module _ {X Y : Type 0} (v : Walk X) (w : Walk Y) (line : AskedLine) (R S : X → Y → Type 0)
     (pools : (x : X) (y : Y) → R x y → v.pool x ≡ w.pool y) (keeps : (x : X) (y : Y) → R x y → v.keeps line.party x ≡ w.keeps line.party y) (answer : (x : X) (y : Y) → R x y → v.answer line x ≡ w.answer line y)
     (stays : (x : X) (y : Y) → R x y → S x y) (enters : (x : X) (y : Y) → R x y → S (v.entered line x) (w.entered line y)) where
   same_position : (p : X → Bool) (q : Y → Bool) → ((x : X) (y : Y) → R x y → p x ≡ q y) → (i : ℕ) (xs : List X) (ys : List Y) → AllZip R xs ys → position_from p i xs ≡ position_from q i ys

@@ -5,7 +5,7 @@ use Rattle.lic_types.specs.declared.limits.TheConstants.{MOMENT_END, PARTY_LIMIT
 use Rattle.feature_lines.specs.declared.pool.Pool.{Pool}
 use Rattle.options_machine.specs.Own.{holds, queues}
 use Rattle.options_machine.specs.Run.{after}
-use Rattle.script_text.specs.declared.line.ScriptLine.{ScriptLine}
+use Rattle.script_text.specs.Line.{AskedLine}
 use Rattle.scripts.specs.Ledgers.{Ledger}
 use Rattle.scripts.specs.Script.{ledger_walk}
 use Rattle.scripts.specs.Walk.{output_from}
@@ -36,6 +36,6 @@ pub record IsReached (sets lines : ℕ) (pools : List Pool) (runs : List PoolRun
   pub follow : AreRunsOf sets lines runs ledgers
 
 -- and what is left to write: what was gathered, and the output lines of the lines that are left
-pub record IsPlayed {S : Type 0} (held : S → Option (List ℕ)) (faults : S → ℕ) (sets lines : ℕ) (pools : List Pool) (runs : List PoolRun) (left : List ScriptLine) (old now : S) (gathered whole : List ℕ) : Type 0 where
+pub record IsPlayed {S : Type 0} (held : S → Option (List ℕ)) (faults : S → ℕ) (sets lines : ℕ) (pools : List Pool) (runs : List PoolRun) (left : List AskedLine) (old now : S) (gathered whole : List ℕ) : Type 0 where
   pub reached : IsReached sets lines pools runs
   pub text : IsLeft held faults old now (gathered ++ output_from ledger_walk sets reached.ledgers left) whole

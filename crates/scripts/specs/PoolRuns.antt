@@ -8,7 +8,7 @@ use Rattle.options_machine.specs.Step.{set_asked, step}
 use Rattle.options_machine.specs.declared.reply.Reply.{Reply}
 use Rattle.options_text.specs.Options.{OptionsFile}
 use Rattle.policy.specs.Pools.{rules_of}
-use Rattle.script_text.specs.declared.line.ScriptLine.{ScriptLine}
+use Rattle.script_text.specs.Line.{AskedLine}
 use Rattle.scripts.specs.Script.{request_of}
 use Rattle.scripts.specs.Walk.{Walk}
 use Rattle.scripts.specs.declared.answers.Answer.TheVariants as answers
@@ -32,15 +32,15 @@ abbrev pub places_moved : List Bool → ℕ → Reply → Option ℕ → List Bo
 places_moved places party reply None = slice_set places party (says_place reply)
 places_moved places party reply (Some n) = places
 
-abbrev pub places_with : List Bool → ScriptLine → Reply → List Bool
+abbrev pub places_with : List Bool → AskedLine → Reply → List Bool
 places_with places line reply = places_moved places line.party reply (set_asked line.kind)
 
 -- what the book of a run answers to a line, and the state that it then has
-unfoldable pub served_at : ScriptLine → PoolRun → Reply × State
+unfoldable pub served_at : AskedLine → PoolRun → Reply × State
 served_at line run = step run.book.sets run.book.state (request_of line) line.moment
 
 -- the run after the entry of a line
-abbrev pub entered_at : ScriptLine → PoolRun → PoolRun
+abbrev pub entered_at : AskedLine → PoolRun → PoolRun
 entered_at line run = record {
   pool = run.pool;
   book = record {

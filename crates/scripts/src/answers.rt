@@ -6,6 +6,9 @@ use lic_types::Day;
 use options_machine::Reply;
 use reply_words::{put, put_number, put_reply};
 
+/// Room for one output line, in bytes.
+pub(crate) const LINE_ROOM: usize = 256;
+
 /// What a script line is answered.
 #[derive(Clone, Copy, Debug, PartialEq, Eq)]
 pub(crate) enum Answer {
@@ -22,8 +25,8 @@ pub(crate) enum Answer {
 }
 
 /// Writes the output line of a reply, with the place of its entry, into a room, and gives how many bytes it takes.
-fn put_reply_line(reply: &Reply, place: u64, room: &mut [u8; 256]) -> usize
-    ensures place { result ≤ 256 }
+fn put_reply_line(reply: &Reply, place: u64, room: &mut [u8; LINE_ROOM]) -> usize
+    ensures place { result ≤ LINE_ROOM }
     ensures written { take result room.new ≡ reply_line reply.now place }
 {
     let at = put_reply(room, 0, reply);
@@ -34,8 +37,8 @@ fn put_reply_line(reply: &Reply, place: u64, room: &mut [u8; 256]) -> usize
 
 /// Writes the output line of a line whose pools have all expired, the first of them at the end of this day, into a
 /// room, and gives how many bytes it takes.
-fn put_expired_line(day: &Day, room: &mut [u8; 256]) -> usize
-    ensures place { result ≤ 256 }
+fn put_expired_line(day: &Day, room: &mut [u8; LINE_ROOM]) -> usize
+    ensures place { result ≤ LINE_ROOM }
     ensures written { take result room.new ≡ codes "EXPIRED " ++ day_text day.now ++ 10 ∷ [] }
 {
     let mut text = [0u8; 16];
@@ -46,9 +49,9 @@ fn put_expired_line(day: &Day, room: &mut [u8; 256]) -> usize
 }
 
 /// Writes a line of a word, with its blank, and a number into a room, and gives how many bytes it takes.
-fn put_number_line(word: &[u8], number: u32, room: &mut [u8; 256]) -> usize
+fn put_number_line(word: &[u8], number: u32, room: &mut [u8; LINE_ROOM]) -> usize
     requires { length word.now ≤ 16 }
-    ensures place { result ≤ 256 }
+    ensures place { result ≤ LINE_ROOM }
     ensures written { take result room.new ≡ word.now ++ decimal number ++ 10 ∷ [] }
 {
     let at = put(room, 0, word);
@@ -57,8 +60,8 @@ fn put_number_line(word: &[u8], number: u32, room: &mut [u8; 256]) -> usize
 }
 
 /// Writes the output line of an answer into a room, and gives how many bytes it takes.
-pub(crate) fn put_answer(answer: &Answer, room: &mut [u8; 256]) -> usize
-    ensures place { result ≤ 256 }
+pub(crate) fn put_answer(answer: &Answer, room: &mut [u8; LINE_ROOM]) -> usize
+    ensures place { result ≤ LINE_ROOM }
     ensures written { take result room.new ≡ answer_text answer.now }
 {
     match answer {

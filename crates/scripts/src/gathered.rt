@@ -1,10 +1,10 @@
 //! Output lines that are gathered, and written together.
-ghost use Rattle.std.specs.Prelude.{◌≡◌, ◌≤◌, ◌+◌, ◌++◌, [], IfOk, length, true};
+ghost use Rattle.std.specs.Prelude.{◌≡◌, ◌≤◌, ◌+◌, ◌++◌, [], IfOk, length, nat_le};
 ghost use Rattle.outside.specs.Told.{Wrote};
 ghost use Rattle.scripts.specs.Answers.{answer_text};
 ghost use Rattle.scripts.specs.declared.gathered.TheConstants.{GATHER_LIMIT};
 
-use crate::answers::{Answer, put_answer};
+use crate::answers::{Answer, LINE_ROOM, put_answer};
 use lic_types::NoMemory;
 use outside::{Sink, WriteFailed};
 use reply_words::put;
@@ -13,9 +13,6 @@ use std::marker::Model;
 
 /// How many bytes are gathered at most.
 const GATHER_LIMIT: usize = 65_536;
-
-/// Room for one line more, in bytes.
-const LINE_ROOM: usize = 256;
 
 /// Output lines that were not written yet. A clause sees their text.
 #[derive(Drop)]
@@ -46,14 +43,14 @@ impl Gathered {
 
     /// Whether there is room for one line more.
     pub fn has_room(&self) -> bool
-        ensures { result ≡ true → length self.now + 256 ≤ GATHER_LIMIT }
+        ensures { result ≡ nat_le (length self.now + LINE_ROOM) GATHER_LIMIT }
     {
-        GATHER_LIMIT - self.at >= LINE_ROOM
+        self.at + LINE_ROOM <= GATHER_LIMIT
     }
 
     /// Adds the output line of an answer.
     pub fn add(&mut self, answer: &Answer)
-        requires { length self.old + 256 ≤ GATHER_LIMIT }
+        requires { length self.old + LINE_ROOM ≤ GATHER_LIMIT }
         ensures { self.new ≡ self.old ++ answer_text answer.now }
     {
         let mut line = [0u8; LINE_ROOM];

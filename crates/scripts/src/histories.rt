@@ -21,7 +21,7 @@ fn tell_orderly(options: &[Options])
 /// What a script makes at the pools of a licence: histories, one for each pool, each a run of the pool's rule sets in a
 /// lawful state, and the output lines are replies of their entries. It changes nothing: a call tells it to the caller's
 /// proof.
-pub(crate) fn tell_histories(licence: &Licence, options: &[Options], lines: &[ScriptLine])
+pub(crate) fn tell_histories(licence: &Licence, options: &[Options], lines: &[ScriptLine<'_>])
     requires fit { list_all is_fit lines.now ≡ true }
     requires some { 0 < length options.now }
     requires few { length options.now ≤ 4 }

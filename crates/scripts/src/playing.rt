@@ -5,6 +5,7 @@ ghost use Rattle.options_machine.specs.Run.{IsBelow};
 ghost use Rattle.options_machine.specs.Step.{set_asked};
 ghost use Rattle.outside.specs.Told.{HasRisen, TakesPrefix, Wrote, held_after};
 ghost use Rattle.script_text.specs.Fits.{is_fit};
+ghost use Rattle.scripts.specs.declared.answers.TheConstants.{LINE_ROOM};
 ghost use Rattle.scripts.specs.declared.gathered.TheConstants.{GATHER_LIMIT};
 ghost use Rattle.scripts.specs.Laws.{Histories};
 ghost use Rattle.scripts.specs.PoolRuns.{entered_at, is_ready, pools_of, run_of, run_walk};
@@ -25,7 +26,7 @@ use script_text::ScriptLine;
 use std::alloc::Global;
 
 /// Makes the entry of a line at each pool, in their order.
-fn enter_each(sets: usize, runs: &mut [PoolRun], line: &ScriptLine)
+fn enter_each(sets: usize, runs: &mut [PoolRun], line: &ScriptLine<'_>)
     requires party { line.now.party < PARTY_LIMIT }
     requires fits { IsBelow (set_asked line.now.kind) sets }
     requires ready { list_all (is_ready sets) runs.old ≡ true }
@@ -37,7 +38,7 @@ fn enter_each(sets: usize, runs: &mut [PoolRun], line: &ScriptLine)
 }
 
 /// Answers a line that asks for the rule set of this number, and makes its entries where there is one.
-fn answer_reread(sets: usize, runs: &mut [PoolRun], line: &ScriptLine, set: u32) -> Answer
+fn answer_reread(sets: usize, runs: &mut [PoolRun], line: &ScriptLine<'_>, set: u32) -> Answer
     requires party { line.now.party < PARTY_LIMIT }
     requires asked { set_asked line.now.kind ≡ Some set }
     requires ready { list_all (is_ready sets) runs.old ≡ true }
@@ -53,7 +54,7 @@ fn answer_reread(sets: usize, runs: &mut [PoolRun], line: &ScriptLine, set: u32)
 }
 
 /// Makes the entry of a line at the pool of this place, and gives its answer.
-fn answer_at(sets: usize, runs: &mut [PoolRun], line: &ScriptLine, at: usize) -> Answer
+fn answer_at(sets: usize, runs: &mut [PoolRun], line: &ScriptLine<'_>, at: usize) -> Answer
     requires there { at < length runs.old }
     requires party { line.now.party < PARTY_LIMIT }
     requires asked { set_asked line.now.kind ≡ None }
@@ -67,7 +68,12 @@ fn answer_at(sets: usize, runs: &mut [PoolRun], line: &ScriptLine, at: usize) ->
 }
 
 /// Answers a line that asks for no rule set: it goes to a pool and makes its entry there, or goes nowhere.
-fn answer_request(licence: &Licence, sets: usize, runs: &mut [PoolRun], line: &ScriptLine) -> Answer
+fn answer_request(
+    licence: &Licence,
+    sets: usize,
+    runs: &mut [PoolRun],
+    line: &ScriptLine<'_>,
+) -> Answer
     requires pools { pools_of runs.old ≡ licence.now.pools }
     requires party { line.now.party < PARTY_LIMIT }
     requires asked { set_asked line.now.kind ≡ None }
@@ -87,7 +93,7 @@ pub(crate) fn answer_line(
     licence: &Licence,
     sets: usize,
     runs: &mut [PoolRun],
-    line: &ScriptLine,
+    line: &ScriptLine<'_>,
 ) -> Answer
     requires pools { pools_of runs.old ≡ licence.now.pools }
     requires party { line.now.party < PARTY_LIMIT }
@@ -95,7 +101,7 @@ pub(crate) fn answer_line(
     ensures runs { runs.new ≡ after_line run_walk sets runs.old line.now }
     ensures answer { result ≡ line_answer run_walk sets runs.old line.now }
 {
-    match line.kind.set_asked() {
+    match line.kind().set_asked() {
         Some(set) => answer_reread(sets, runs, line, set),
         None => answer_request(licence, sets, runs, line),
     }
@@ -104,7 +110,7 @@ pub(crate) fn answer_line(
 /// Writes what was gathered, unless there is room for one line more.
 fn make_room<O: Sink>(gathered: &mut Gathered, out: &mut O) -> Result<(), WriteFailed>
     ensures wrote { (written : List ℕ) × (gathered.old ≡ written ++ gathered.new) × Wrote O.held O.faults out.old out.new written result }
-    ensures room { OnOk result (length gathered.new + 256 ≤ GATHER_LIMIT) }
+    ensures room { OnOk result (length gathered.new + LINE_ROOM ≤ GATHER_LIMIT) }
 {
     if gathered.has_room() {
         Ok(())
@@ -119,7 +125,7 @@ fn play_lines<O: Sink>(
     licence: &Licence,
     options: &[Options],
     runs: &mut [PoolRun],
-    lines: &[ScriptLine],
+    lines: &[ScriptLine<'_>],
     gathered: &mut Gathered,
     out: &mut O,
 ) -> Result<(), WriteFailed>
@@ -153,7 +159,7 @@ pub fn play<O: Sink>(
     alloc: Global,
     licence: &Licence,
     options: &[Options],
-    lines: &[ScriptLine],
+    lines: &[ScriptLine<'_>],
     out: &mut O,
 ) -> Result<(), PlayFault>
     requires fit { list_all is_fit lines.now ≡ true }

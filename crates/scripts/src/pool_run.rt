@@ -2,10 +2,10 @@ ghost use Rattle.std.specs.Prelude.{◌≡◌, ◌-◌, ◌<◌, ◌^◌, length
 ghost use Rattle.options_machine.specs.Run.{AsksForSet};
 ghost use Rattle.scripts.specs.PoolRuns.{entered_at, places_with, run_walk, says_place, served_at};
 ghost use Rattle.scripts.specs.Script.{request_of};
-ghost use Rattle.scripts.specs.Walk.{is_kept};
+ghost use Rattle.scripts.specs.Walk.{is_kept, is_named};
 
 use feature_lines::Pool;
-use lic_types::{Name, PARTY_LIMIT};
+use lic_types::{NameRef, PARTY_LIMIT};
 use options_machine::{Reply, Request};
 use script_text::ScriptLine;
 use seat_book::Book;
@@ -33,25 +33,43 @@ fn keeps_place(reply: &Reply) -> bool
 
 /// Notes whether the party of a line keeps a place after a reply. A line that asks for a rule set moves no party's
 /// place.
-fn note_place(places: &mut [bool; PARTIES], line: &ScriptLine, reply: &Reply)
+fn note_place(places: &mut [bool; PARTIES], line: &ScriptLine<'_>, reply: &Reply)
     requires party { line.now.party < PARTY_LIMIT }
     ensures { places.new ≡ places_with places.old line.now reply.now }
 {
-    if line.kind.set_asked().is_none() {
-        places[line.party as usize] = keeps_place(reply);
+    if line.kind().set_asked().is_none() {
+        places[line.party() as usize] = keeps_place(reply);
+    }
+}
+
+/// The request of a line.
+fn request_of(line: &ScriptLine<'_>) -> Request
+    ensures { result ≡ request_of line.now }
+{
+    Request {
+        party: line.party(),
+        client: line.client(),
+        kind: line.kind(),
     }
 }
 
 impl PoolRun {
+    /// Whether the pool is of the name.
+    pub(crate) fn is_named(&self, name: &NameRef<'_>) -> bool
+        ensures { result ≡ is_named run_walk name.now self.now }
+    {
+        self.pool.name.bytes() == name.bytes()
+    }
+
     /// Whether the pool is of the name and the party keeps a place there.
-    pub(crate) fn keeps(&self, name: &Name, party: u32) -> bool
+    pub(crate) fn keeps(&self, name: &NameRef<'_>, party: u32) -> bool
         ensures { result ≡ is_kept run_walk name.now party self.now }
     {
-        self.pool.name == *name && self.places.get(party as usize).copied().unwrap_or(false)
+        self.is_named(name) && self.places.get(party as usize).copied().unwrap_or(false)
     }
 
     /// Makes the entry of a line, and gives its reply.
-    pub(crate) fn enter(&mut self, line: &ScriptLine) -> Reply
+    pub(crate) fn enter(&mut self, line: &ScriptLine<'_>) -> Reply
         requires party { line.now.party < PARTY_LIMIT }
         requires parties { self.old.book.parties ≡ PARTY_LIMIT }
         requires fits { AsksForSet self.old.book.sets (request_of line.now) }
@@ -59,12 +77,7 @@ impl PoolRun {
         ensures entered { self.new ≡ entered_at line.now self.old }
         ensures reply { result ≡ (served_at line.now self.old).0 }
     {
-        let request = Request {
-            party: line.party,
-            client: line.client,
-            kind: line.kind,
-        };
-        let (reply, _) = self.book.step(&request, line.moment);
+        let (reply, _) = self.book.step(&request_of(line), line.moment());
         self.entries += 1;
         note_place(&mut self.places, line, &reply);
         reply

@@ -19,7 +19,12 @@ use stat_report::report;
 use std::alloc::Global;
 
 /// Makes the entries of the lines of a script at the pools of a licence, before any of them has an entry.
-fn enter_lines(licence: &Licence, options: &[Options], runs: &mut [PoolRun], lines: &[ScriptLine])
+fn enter_lines(
+    licence: &Licence,
+    options: &[Options],
+    runs: &mut [PoolRun],
+    lines: &[ScriptLine<'_>],
+)
     requires fit { list_all is_fit lines.now ≡ true }
     requires opened { runs.old ≡ map (run_of options.now) licence.now.pools }
     ensures runs { AreRunsOf (length options.now) (length lines.now) runs.new (ledgers_of licence.now.pools options.now lines.now) }
@@ -48,7 +53,7 @@ pub fn report_script(
     alloc: Global,
     licence: &Licence,
     options: &[Options],
-    lines: &[ScriptLine],
+    lines: &[ScriptLine<'_>],
 ) -> Result<Vec<u8>, NoMemory>
     requires fit { list_all is_fit lines.now ≡ true }
     requires some { 0 < length options.now }

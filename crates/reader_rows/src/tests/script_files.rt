@@ -1,7 +1,7 @@
 use lic_text::TextFault;
 use lic_types::{Client, Name, Version};
 use options_machine::Kind;
-use script_text::{ScriptLine, ScriptRefusal, read_script};
+use script_text::{ScriptRefusal, read_script};
 use script_words::{ScriptFault, ScriptWord};
 use std::alloc::Global;
 use std::test::Fail;
@@ -52,12 +52,12 @@ fn a_script_of_every_verb(rt: HostRuntime) -> Result<(), Fail> {
     let script = read_script(rt.alloc(), file)?;
     assert_eq!(rt; script.len(), 9);
     for (found, (line, moment, party, kind, feature, version)) in script.iter().zip(rows) {
-        assert_eq!(rt; found.line, line);
-        assert_eq!(rt; found.moment, moment);
-        assert_eq!(rt; found.party, party);
-        assert_eq!(rt; found.kind, kind);
-        assert_eq!(rt; found.feature.is_some(), feature);
-        assert_eq!(rt; found.version.is_some(), version);
+        assert_eq!(rt; found.line(), line);
+        assert_eq!(rt; found.moment(), moment);
+        assert_eq!(rt; found.party(), party);
+        assert_eq!(rt; found.kind(), kind);
+        assert_eq!(rt; found.feature().is_some(), feature);
+        assert_eq!(rt; found.version().is_some(), version);
     }
     Ok(())
 }
@@ -69,28 +69,20 @@ fn the_client_the_feature_and_the_version(rt: HostRuntime) -> Result<(), Fail> {
         rt.alloc(),
         b"0 0 ann h1 d1 p1 CHECKOUT edit 1.0\n9 0 ann h1 d1 p1 QUIT edit\n",
     )?;
-    let checkout = ScriptLine {
-        line: 1,
-        moment: 0,
-        party: 0,
-        client: Client {
-            user: Name::read(b"ann")?,
-            host: Name::read(b"h1")?,
-            display: Name::read(b"d1")?,
-            project: Name::read(b"p1")?,
-        },
-        kind: Kind::Checkout,
-        feature: Some(Name::read(b"edit")?),
-        version: Some(Version { key: 1_000_000_000 }),
+    let client = Client {
+        user: Name::read(b"ann")?,
+        host: Name::read(b"h1")?,
+        display: Name::read(b"d1")?,
+        project: Name::read(b"p1")?,
     };
-    let quit = ScriptLine {
-        line: 2,
-        moment: 9,
-        kind: Kind::Quit,
-        version: None,
-        ..checkout
-    };
-    assert!(rt; script.as_slice() == [checkout, quit].as_slice());
+    let versions = [Some(Version { key: 1_000_000_000 }), None];
+    assert_eq!(rt; script.len(), 2);
+    for (found, version) in script.iter().zip(versions) {
+        let feature = found.feature().ok_or("no feature")?;
+        assert_eq!(rt; found.client(), client);
+        assert_eq!(rt; feature.name(), Name::read(b"edit")?);
+        assert_eq!(rt; found.version(), version);
+    }
     Ok(())
 }
 

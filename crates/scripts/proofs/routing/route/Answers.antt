@@ -7,6 +7,6 @@ use Rattle.scripts.proofs.routing.route.Goals as goal
 
 pub returns-in-Some : goal.returns-in-Some
 returns-in-Some c =
-    c.find.ensures.found
+    (rw (c.name.ensures, c.moment.ensures) at c.find.ensures.found)
     ∙ (ap (λ (pools : List Pool). route pools c.args.name.now c.in-Some.version.key c.args.line.now.moment) (sym c.requires)
-    ∙ ap (found_by_route run_walk c.args.runs.now c.args.name.now c.args.line.now.moment) (sym c.in-Some.is))
+    ∙ ap (found_by_route run_walk c.args.runs.now c.args.name.now c.args.line.now.moment) (sym c.in-Some.is ∙ c.version.ensures))
