@@ -8,7 +8,7 @@ use stat_board::{Board, BoardPass, Glance, NoMemory, Ruling};
 use std::alloc::Global;
 use std::sync::Wait;
 use std::test::Fail;
-use std::thread::{Threads, join_mut};
+use std::thread::{Threads, for_each_mut, join_mut};
 
 /// The desk has one seat.
 struct OneSeat;
@@ -227,6 +227,73 @@ fn fronts_never_fall_while_another_thread_publishes(rt: HostRuntime) -> Result<(
     let (published, (fell, last), end) = publish_and_watch(&rt, board, pass, client);
     assert_eq!(rt; (published, fell, end), (MANY, false, MANY));
     assert!(rt; last <= end);
+    Ok(())
+}
+
+/// A party that reads the board, and whether a front fell that it read.
+#[derive(Drop)]
+struct Watcher {
+    pass: BoardPass,
+    fell: bool,
+}
+
+/// Each party reads so often.
+fn watch_all<R: Threads + Sync>(rt: &R, watchers: &mut [Watcher]) {
+    let watching = |_party: usize, watcher: &mut Watcher| {
+        let (fell, _last) = watch(&mut watcher.pass, MANY);
+        watcher.fell = fell;
+    };
+    for_each_mut(rt, watchers, 8, &watching);
+}
+
+/// One thread publishes so many entries, and eight read as often. Whether a front fell, and whether each reads the last
+/// at the end.
+fn publish_and_watch_all<R: Threads + Wait + Sync>(
+    rt: &R,
+    mut board: Board,
+    mut watchers: Vec<Watcher>,
+    client: Client,
+) -> (bool, bool)
+    requires sets { board.front.sets ≡ one_seat }
+    requires idle { IsIdle board.front.list }
+{
+    let shared = &client;
+    let (published, ()) = join_mut(
+        rt,
+        &mut || publish_many(rt, shared, &mut board, MANY),
+        &mut || watch_all(rt, watchers.as_mut_slice()),
+    );
+    let mut fell = false;
+    let mut fresh = published == MANY;
+    for watcher in watchers.iter_mut() {
+        fell = fell || watcher.fell;
+        fresh = fresh && watcher.pass.glance().front == MANY;
+    }
+    board.end(rt);
+    (fell, fresh)
+}
+
+/// Eight passes share four readers, which are all there again when nobody reads.
+#[test]
+fn eight_threads_share_the_readers(rt: HostRuntime) -> Result<(), Fail> {
+    let client = ann()?;
+    let made = opened(&rt, rt.alloc(), 8);
+    assert!(rt; made.is_ok());
+    let Ok((board, passes)) = made else {
+        return Ok(());
+    };
+    let watching = passes
+        .into_iter()
+        .map(|pass| Watcher { pass, fell: false })
+        .collect(rt.alloc());
+    let Ok(watchers) = watching else {
+        board.end(&rt);
+        return Ok(());
+    };
+    assert_eq!(rt;
+        publish_and_watch_all(&rt, board, watchers, client),
+        (false, true)
+    );
     Ok(())
 }
 
