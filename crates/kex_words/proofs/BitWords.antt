@@ -1,5 +1,9 @@
 -- The accesses to a bit.
-use Rattle.std.proofs.Common.{◌≡◌, ◌≢◌, ℕ, ◌+◌, ◌-◌, ◌*◌, ◌<◌, length, get_or, set, sym, refl, ap, ◌∙◌, arith, length-set, get_or-set_other, Option}
+use Rattle.std.proofs.Common.{◌≡◌, ◌≢◌, ℕ, ◌+◌, ◌-◌, ◌*◌, ◌<◌, List, length, get_or, set, sym, refl, ap, subst, ◌∙◌, arith, length-set, get_or-set_other, Option}
+use Rattle.std.proofs.lemmas.List.{set-get_or}
+use mathlib.Core.Logic.{dite}
+use native.Mathlib.Decide.{ℕ_discrete}
+use Rattle.atomic_table.proofs.Lists.{set_again}
 use mathlib.Core.Option.{none, some}
 use lib.ListN.{get_elem?}
 use Rattle.atomic_table.specs.Table.{State, step, keeps, Allows}
@@ -14,7 +18,7 @@ use Rattle.kex_words.specs.declared.view.View.{View}
 use Rattle.kex_words.specs.Passes.{got_after}
 use Rattle.pass_roles.specs.Roles.{number_of}
 use Rattle.kex_words.specs.Rule.{IsReadOff}
-use Rattle.kex_words.specs.Steps.{Self, next_view, moves_no_card}
+use Rattle.kex_words.specs.Steps.{Self, next_view, moves_no_card, looks_at_bit}
 use Rattle.kex_words.proofs.Places.{word_put}
 use Rattle.kex_words.proofs.Keeps.{told, reads_plain}
 use Rattle.kex_words.proofs.StageWords.{low, free}
@@ -61,3 +65,20 @@ module _ (me : Self) (is : me.0.role ≡ Party (number_of me.0.role)) where
 
   pub clears : (slots id i : ℕ) → due net p v.place ≡ Clearing i → Allows (IsReadOff v.net) slots id me (word_of i) (λ _. 0) (λ _. moves_no_card (step slots (word_of i) 0 0 none) me 0)
   clears slots id i is_due s r _ at _ = (next_view v 0, keeps, tt, (clear_read s id i r at is_due).0, (told s id v r at is (Clearing i) is_due 0 refl, refl))
+
+  -- a word was read, and nothing is known of it
+  as_it_was : (s : St) (id w : ℕ) → IsReadOff v.net s → get_elem? s.views id ≡ some v
+      → IsReadOff v.net record { words = set s.words w (get_or s.words w 0); homes = s.homes; views = set s.views id v }
+  as_it_was s id w r at = subst (λ (z : List ℕ × List View). IsReadOff v.net record { words = z.0; homes = s.homes; views = z.1 })
+      (λ i. (sym (set-get_or s.words w 0) i, sym (set_again s.views id v at) i)) r
+
+  pub sees : (slots id i : ℕ) → due net p v.place ≡ Naming i → Allows (IsReadOff v.net) slots id me (word_of i) (λ n. n) (looks_at_bit (step slots (word_of i) 0 0 none) me)
+  sees slots id i is_due s r _ at _ = let n : ℕ = get_or s.words (word_of i) 0 in dite (ℕ_discrete n 1)
+      (λ one. (
+        next_view v n,
+        keeps,
+        tt,
+        subst (λ (k : ℕ). IsReadOff v.net record { words = set s.words (word_of i) k; homes = s.homes; views = set s.views id (next_view v n) }) (sym one) (test_read s id i r at is_due).0,
+        (λ _. (told s id v r at is (Naming i) is_due n (r.bit_is i (low me is s id r at (Naming i) is_due).0), refl), λ other. absurd (other one)),
+      ))
+      (λ other. (v, keeps, tt, as_it_was s id (word_of i) r at, (λ one. absurd (other one), λ _. refl)))

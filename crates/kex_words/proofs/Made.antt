@@ -27,6 +27,10 @@ pub made : (id id' : TableId) (m m' : Self) (n : ℕ) (p q : Pass) → pass_of i
 made id id' m m' n p q p_is inv t id_is q_is = both_are (pass_of id m.0) p (next_pass (pass_of id m.0) n) q p_is (sym (q_is ∙ (λ i. pass_of (id_is i) (t.1 i).0)))
     (let x = of_view (pass_of id m.0) 0 n m.0 (ap (λ (z : Self). z.0) inv.sits) t.0 in x.0)
 
+-- of one after a look that left the seat as it was
+pub made_after : (id id' : TableId) (m k m' : Self) (n : ℕ) (p q : Pass) → pass_of id m.0 ≡ p → IsPass (pass_of id m.0) m → k ≡ m → moves_no_card nothing k n m' → id' ≡ id → q ≡ pass_of id' m'.0 → Moved p q
+made_after id id' m k m' n p q p_is inv same t id_is q_is = made id id' m m' n p q p_is inv (subst (λ (x : Self). moves_no_card nothing x n m') same t) id_is q_is
+
 -- of one by which the card went home, which had been laid into the seat's hand
 pub made_home : (id id' : TableId) (m k m' : Self) (n : ℕ) (h : Held) (q : Pass) → held_of id m.0 ≡ h → IsHolder (held_of id m.0) m → k.0 ≡ m.0 → gave nothing k n m' → id' ≡ id → q ≡ pass_of id' m'.0 → Moved h.pass q
 made_home id id' m k m' n h q h_is inv same t id_is q_is = both_are (pass_of id m.0) h.pass (next_pass (pass_of id m.0) n) q (ap (λ (x : Held). x.pass) h_is)

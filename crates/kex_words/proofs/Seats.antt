@@ -14,9 +14,9 @@ use Rattle.kex_words.specs.declared.card.Card.{Card}
 use Rattle.kex_words.specs.Passes.{TableNet, Pass, Held, IsSetUp}
 use Rattle.pass_roles.specs.Roles.{number_of}
 use Rattle.kex_words.specs.Rule.{IsReadOff}
-use Rattle.kex_words.specs.Steps.{Self, pass_of, held_of, name_at, IsPass, IsHolder, moves_no_card, took, gave}
+use Rattle.kex_words.specs.Steps.{Self, pass_of, held_of, name_at, IsPass, IsHolder, moves_no_card, looks_at_bit, took, gave}
 use Rattle.kex_words.proofs.StageWords.{decs, incs, looks, spins, marks, unmarks}
-use Rattle.kex_words.proofs.BitWords.{tests, clears}
+use Rattle.kex_words.proofs.BitWords.{tests, clears, sees}
 use Rattle.kex_words.proofs.CardWords.{takes_card, gives_card}
 
 -- the table has its id, the net that its rule was told, and its own net; the seat is of that table, and is its party's
@@ -51,6 +51,10 @@ sits id told net self seat_id m number place d pass up self_is pass_is own inv n
       placed = subst (λ (x : Sheet × ℕ × Place). Placed (plan x.0) x.1 x.2) (λ i. (net_is i, sym number_is i, due_is i))
           (placed_due (plan m.0.net) (subst (λ (x : Sheet). IsNet x) (sym net_is) up.is_net).valid (number_of m.0.role) inv.inside m.0.place inv.placed);
     }
+
+-- the same of a seat that a look left as it was
+pub still_sits : (id : TableId) (told net : Sheet) (seat_id seat_id' : TableId) (m m' : Self) (number : ℕ) (d : Place) → Sits id told net seat_id m number d → seat_id' ≡ seat_id → m' ≡ m → Sits id told net seat_id' m' number d
+still_sits id told net seat_id seat_id' m m' number d s same is = subst (λ (x : TableId × Self). Sits id told net x.0 x.1 number d) (λ i. (sym same i, sym is i)) s
 
 -- the same where a card is in hand
 pub sits_holding : (id : TableId) (told net : Sheet) (self : TableNet) (seat_id : TableId) (m : Self) (number k : ℕ) (held : Held)
@@ -133,6 +137,14 @@ module _ (id : TableId) (told net : Sheet) (seat_id : TableId) (m : Self) (numbe
     s.same,
     (let a = (placed_at (Naming b) is).0 in let c = s.words in let e : length net.caps ≡ length self.net.caps = ap (λ (x : TableNet). length x.net.caps) self_is in omega arith),
     subst (λ (x : Sheet × ℕ). Allows (IsReadOff x.0) slots seat m x.1 (λ _. 1) (moves_no_card (step slots x.1 1 0 none) m)) (λ i. (s.told_is i, sym (w_is ∙ (ap (λ (x : TableNet). 2 * length x.net.caps + 1 + b) (sym self_is) ∙ ap (λ (n : Sheet). 2 * length n.caps + 1 + b) (sym s.net_is))) i)) (tests m s.role slots seat b (s.is_due ∙ is)),
+  )
+
+  pub sees_bit : (self : TableNet) → record { id = id; net = net } ≡ self → (seat slots w b : ℕ) → d ≡ Naming b → w ≡ 2 * length self.net.caps + 1 + b
+      → (seat_id ≡ id) × (w < id.words) × Allows (IsReadOff told) slots seat m w (λ n. n) (looks_at_bit (step slots w 0 0 none) m)
+  sees_bit self self_is seat slots w b is w_is = (
+    s.same,
+    (let a = (placed_at (Naming b) is).0 in let c = s.words in let e : length net.caps ≡ length self.net.caps = ap (λ (x : TableNet). length x.net.caps) self_is in omega arith),
+    subst (λ (x : Sheet × ℕ). Allows (IsReadOff x.0) slots seat m x.1 (λ n. n) (looks_at_bit (step slots x.1 0 0 none) m)) (λ i. (s.told_is i, sym (w_is ∙ (ap (λ (x : TableNet). 2 * length x.net.caps + 1 + b) (sym self_is) ∙ ap (λ (n : Sheet). 2 * length n.caps + 1 + b) (sym s.net_is))) i)) (sees m s.role slots seat b (s.is_due ∙ is)),
   )
 
   pub clears_bit : (self : TableNet) → record { id = id; net = net } ≡ self → (seat slots w b : ℕ) → d ≡ Clearing b → w ≡ 2 * length self.net.caps + 1 + b

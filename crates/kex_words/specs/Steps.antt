@@ -1,5 +1,5 @@
 -- The views of a seat, and what each step tells.
-use Rattle.std.specs.Prelude.{◌≡◌, ℕ, ◌+◌, ◌%◌, ◌^◌, ◌<◌, ◌≤◌, List, [], ◌∷◌, ◌++◌, Option, Some, None}
+use Rattle.std.specs.Prelude.{◌≡◌, ◌≢◌, ℕ, ◌+◌, ◌%◌, ◌^◌, ◌<◌, ◌≤◌, List, [], ◌∷◌, ◌++◌, Option, Some, None}
 use mathlib.Core.Option.{some}
 use lib.ListN.{get_elem?}
 use Rattle.atomic_table.specs.Seated.{TableId}
@@ -108,6 +108,10 @@ pub record Told (v : View) (n : ℕ) : Type 0 where
 -- an access that moves no card
 abbrev pub moves_no_card : Step (Option Card) → Self → ℕ → Self → Type 0
 moves_no_card st m n m' = Told m.0 n × (m' ≡ (next_view m.0 n, m.1))
+
+-- a look at a bit: where it is set that is the test of it that was due, which leaves it set, and else it is no access
+abbrev pub looks_at_bit : Step (Option Card) → Self → ℕ → Self → Type 0
+looks_at_bit st m n m' = (n ≡ 1 → moves_no_card st m n m') × (n ≢ 1 → m' ≡ m)
 
 -- the card was taken, and its uses are to be one more
 abbrev pub took : Step (Option Card) → Self → ℕ → Self → Type 0

@@ -52,6 +52,15 @@ impl Play<Option<Card>, View> for Moves {
     ghost then = { moves_no_card };
 }
 
+/// Reads a bit: where it is set that is the test of it, and else no access.
+pub(crate) struct LooksAtBit;
+
+impl Play<Option<Card>, View> for LooksAtBit {
+    ghost use Rattle.kex_words.specs.Steps.{looks_at_bit};
+
+    ghost then = { looks_at_bit };
+}
+
 /// Sets a card word from 0 to 1: the card goes out with the seat.
 pub(crate) struct TakesCard;
 

@@ -14,7 +14,9 @@ ghost use Rattle.kex_words.specs.Rule.{took_of};
 
 use crate::card::Card;
 use crate::passes::{Back, Entering, Hold, Leaving, Named, Naming, Next, Out, Seated};
-use crate::table::{GivesCard, Moves, TakesCard, WordSeat, WordTable, counter_word, spin_word};
+use crate::table::{
+    GivesCard, LooksAtBit, Moves, TakesCard, WordSeat, WordTable, counter_word, spin_word,
+};
 use kex_core::{Net, Place};
 use std::marker::Model;
 use std::sync::Wait;
@@ -24,7 +26,8 @@ use std::time::Duration;
 ///
 /// Contracts see it as a `TableNet`: its `id` tells it from other tables, and `net` is its net. Each call that takes a
 /// pass has the condition that the pass is of this table. Each step call is one access to one shared word, waits for
-/// nobody and takes no memory; that access is the one that is due at the pass's place, by the listing of `kex_core`.
+/// nobody and takes no memory; that access is the one that is due at the pass's place, by the listing of `kex_core`. A
+/// look at a bit that is not set comes before the test of it, and isn't counted.
 #[derive(Drop)]
 pub struct KexTable {
     pub(crate) table: WordTable,
@@ -170,6 +173,9 @@ impl KexTable {
     }
 
     /// TestSet: sets the bit. The party has the bit's number where it was not set.
+    ///
+    /// A bit that is set already is only read, which is the same access, since a test would leave it set. So parties
+    /// that pass over many set bits don't take their words from one another.
     pub fn test_set(&self, n: Naming) -> Next
         requires own { n.table ≡ self.now }
         ensures same { ((pass_in_next result).table ≡ n.table) × ((pass_in_next result).number ≡ n.number) }
@@ -187,10 +193,12 @@ impl KexTable {
         let Place::Naming(i) = due else {
             unreachable!()
         };
-        let bit = self
-            .table
-            .shared
-            .swap::<Moves>(&mut seat, self.bit_word(i), 1);
+        let word = self.bit_word(i);
+        let seen = self.table.shared.load::<LooksAtBit>(&mut seat, word);
+        if seen == 1 {
+            return self.next(number, due, seen, seat);
+        }
+        let bit = self.table.shared.swap::<Moves>(&mut seat, word, 1);
         self.next(number, due, bit, seat)
     }
 

@@ -46,8 +46,8 @@ impl Model for Board {
 }
 
 impl Board {
-    /// A board with a pass for each of `n` parties, from 1 to 256, and with four readers that the passes share, or `n`
-    /// where that is less. It shows the opening state under the rule sets that `M` tells of `about`, and that is all
+    /// A board with a pass for each of `n` parties, from 1 to 256, and with two readers that the passes share, or one
+    /// where there is one pass. It shows the opening state under the rule sets that `M` tells of `about`, and that is all
     /// that its passes know.
     ///
     /// It is refused only where there is too little memory. It waits for nobody, since there is no reader yet.

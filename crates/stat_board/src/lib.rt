@@ -5,8 +5,8 @@
 //! board's lists each begin with the one before. A [`BoardNote`] says what a party has read; a pass that hears it reads
 //! at least that from then on.
 //!
-//! A board has four readers, or one for each party where there are fewer, since a publishing looks at each reader and
-//! waits for those who still read what it is to change. The passes share them: [`BoardPass::glance`] takes one that
+//! A board has two readers, or one where there is one party, since a publishing looks at each reader and waits for
+//! those who still read what it is to change. The passes share them: [`BoardPass::glance`] takes one that
 //! nobody else has at that moment, reads the last Glance with it, and puts it back. It waits for nobody. Where all
 //! readers are in use it answers what its pass has read or was told before, so it may be behind.
 #![tactic(auto)]

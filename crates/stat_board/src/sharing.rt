@@ -6,7 +6,7 @@ use std::alloc::Global;
 use std::snapshot::Snapshot;
 
 /// How many readers a board has at most. A publishing looks at each of them.
-pub(crate) const READERS: usize = 4;
+pub(crate) const READERS: usize = 2;
 
 /// From one reader's word and slot to the next one's, so that no two are in one line of a processor's cache.
 pub(crate) const STRIDE: usize = 16;

@@ -273,7 +273,7 @@ fn publish_and_watch_all<R: Threads + Wait + Sync>(
     (fell, fresh)
 }
 
-/// Eight passes share four readers, which are all there again when nobody reads.
+/// Eight passes share two readers, which are all there again when nobody reads.
 #[test]
 fn eight_threads_share_the_readers(rt: HostRuntime) -> Result<(), Fail> {
     let client = ann()?;
