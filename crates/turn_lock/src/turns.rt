@@ -19,27 +19,30 @@ use std::alloc::Global;
 use std::marker::{Brand, Model};
 use std::snapshot::Snapshot;
 use std::sync::Wait;
+use std::sync::atomic::{AtomicBool, AtomicU64, Ordering};
 use std::time::Duration;
-use std::{hint, mem, thread};
+use std::{hint, mem};
 
-/// Who waits looks again at once in the first rounds, lets another thread run in the next, and then sleeps.
-const SPINS: u32 = 20;
-
-const YIELDS: u32 = 80;
+/// Who waits looks again soon in the first rounds, after a pause that is twice as long each time, and then sleeps after
+/// each look.
+const SPINS: u32 = 7;
 
 /// The first sleep, in microseconds. Each further one is twice as long, up to the longest.
 const FIRST_NAP: u64 = 50;
 
-const LONGEST_NAP: u64 = 1_000;
+const LONGEST_NAP: u64 = 4_000;
 
 /// How often a sleep doubles until it is as long as the longest.
-const DOUBLINGS: u32 = 5;
+const DOUBLINGS: u32 = 7;
 
 /// After so many rounds, about a third of a second, a caller draws its ticket all the same.
-const PATIENCE: u32 = 400;
+const PATIENCE: u32 = 90;
 
-/// The round of the first sleep. Who has a ticket sleeps no longer than this, since all behind it wait for it.
-const SHORTEST: u32 = SPINS + YIELDS;
+/// One sleeper is woken in so many tickets, at most.
+const SPACING: u64 = 32;
+
+/// A caller that was served so few tickets ago wakes nobody: it is likely to call again at once.
+const CLOSE: u64 = 3;
 
 /// What a call through the lock gives.
 #[derive(Debug, Drop)]
@@ -60,6 +63,10 @@ pub struct Answered<A> {
 pub struct Turns<V: Kept> {
     table: LockTable<V>,
     parties: u32,
+    // Whether somebody may sleep that is to be woken.
+    asleep: AtomicBool,
+    // The ticket at which somebody was woken last.
+    woken: AtomicU64,
 }
 
 impl<V: Kept> Model for Turns<V> {
@@ -85,6 +92,8 @@ pub struct PartyPass<L, Q, A> {
     number: u32,
     // How many passes its lock has.
     parties: u32,
+    // The ticket of its last call.
+    last: u64,
     badge: Badge<View<L, Q, A>>,
     ghost inside: { number < parties },
     // So that contracts can read the law from the badge's view.
@@ -147,7 +156,12 @@ impl<V: Kept> Turns<V> {
         slots.push_reserved(Some(value));
         match Table::new(alloc, &[0, 0, 0], slots, &opening) {
             Ok((table, mut seat)) => {
-                let turns = Turns { table, parties: n };
+                let turns = Turns {
+                    table,
+                    parties: n,
+                    asleep: AtomicBool::new(false),
+                    woken: AtomicU64::new(0),
+                };
                 turns.deal(&mut seat, &mut passes);
                 Ok((turns, passes))
             }
@@ -190,11 +204,13 @@ impl<V: Kept> Turns<V> {
     {
         let badge = mem::replace(&mut pass.badge, Badge::blank());
         let mut seat = badge.into_seat();
-        self.wait_turn(rt, &mut seat);
+        let ticket = self.wait_turn(rt, &mut seat);
         self.take(&mut seat);
         let stepped = self.step(rt, &mut seat, request, moment);
         let place = self.count::<Brand>(&mut seat, request, &stepped);
         self.give(&mut seat);
+        self.wake(ticket, pass.last);
+        pass.last = ticket;
         pass.badge = seat.into_badge();
         let Stepped { answer, used } = stepped;
         Answered {
@@ -217,7 +233,12 @@ impl<V: Kept> Turns<V> {
         ensures history { Closes V.party V.run V.stands self.law passes.items result.0 result.1 }
     {
         let seat = self.gather(passes);
-        let Turns { table, parties: _ } = self;
+        let Turns {
+            table,
+            parties: _,
+            asleep: _,
+            woken: _,
+        } = self;
         let mut closed = table.close_with(seat);
         let calls = closed.word(SERVING);
         let slot = closed.take(VALUE);
@@ -239,13 +260,14 @@ impl<V: Kept> Turns<V> {
             passes.push_reserved(PartyPass {
                 number,
                 parties: self.parties,
+                last: 0,
                 badge: other.into_badge(),
             });
         }
     }
 
-    /// Draws a ticket, and waits until it is served.
-    fn wait_turn<R: Wait>(&self, rt: &R, seat: &mut LockSeat<V>)
+    /// Draws a ticket, waits until it is served, and gives it.
+    fn wait_turn<R: Wait>(&self, rt: &R, seat: &mut LockSeat<V>) -> u64
         requires lock { seat.old.table_id ≡ self.now.id.table }
         requires idle { (p : Pass V.Law V.Request V.Answer) × IsAtRest p seat.old.me }
         ensures lock { seat.new.table_id ≡ seat.old.table_id }
@@ -257,9 +279,10 @@ impl<V: Kept> Turns<V> {
         for _ in rt.forever() {
             let serving = self.table.shared.load::<Watch>(seat, SERVING);
             if serving == ticket {
-                return;
+                return ticket;
             }
-            self.pause(rt, round.min(SHORTEST), serving);
+            // All behind it wait for it, so it sleeps no longer than the first time.
+            self.pause(rt, round.min(SPINS), serving);
             round = round.saturating_add(1);
         }
         unreachable!()
@@ -283,6 +306,7 @@ impl<V: Kept> Turns<V> {
                     .shared
                     .compare_exchange::<Claim>(seat, TICKET, serving, next);
                 if found == serving {
+                    self.follow(round);
                     return serving;
                 }
             }
@@ -291,16 +315,37 @@ impl<V: Kept> Turns<V> {
         self.table.shared.fetch_add::<Draw>(seat, TICKET, 1)
     }
 
-    /// One round of waiting for the serving word to be another than was seen. Nobody wakes a sleeper.
+    /// One round of waiting for the serving word to be another than was seen.
     fn pause<R: Wait>(&self, rt: &R, round: u32, seen: u64) {
         if round < SPINS {
-            hint::spin_loop();
-        } else if round < SPINS + YIELDS {
-            thread::yield_now();
+            for _ in 0..1u32 << round {
+                hint::spin_loop();
+            }
         } else {
             let seen = (seen & 0xffff_ffff) as u32;
-            let nap = nap(round - SPINS - YIELDS);
+            self.asleep.store(true, Ordering::SeqCst);
+            let nap = nap(round - SPINS);
             self.table.shared.park_timeout(rt, SERVING, seen, nap);
+        }
+    }
+
+    /// After a round of sleep others may sleep still, who were not woken.
+    fn follow(&self, round: u32) {
+        if SPINS < round {
+            self.asleep.store(true, Ordering::SeqCst);
+        }
+    }
+
+    /// Wakes one of those who sleep, if somebody may sleep, nobody was woken for some tickets, and the caller's ticket
+    /// isn't close to its last one.
+    fn wake(&self, ticket: u64, last: u64) {
+        if CLOSE < ticket.wrapping_sub(last)
+            && self.asleep.load(Ordering::SeqCst)
+            && SPACING <= ticket.wrapping_sub(self.woken.load(Ordering::SeqCst))
+            && self.asleep.swap(false, Ordering::SeqCst)
+        {
+            self.woken.store(ticket, Ordering::SeqCst);
+            self.table.shared.wake_one(SERVING);
         }
     }
 
@@ -396,6 +441,7 @@ impl<L, Q, A> PartyPass<L, Q, A> {
         let PartyPass {
             number: _,
             parties: _,
+            last: _,
             badge,
         } = self;
         badge.into_seat()

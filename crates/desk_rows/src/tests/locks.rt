@@ -26,23 +26,50 @@ fn ask_often<R: Wait>(
     pass
 }
 
+/// Asks a sum once, and gives what it is told: the answer, the place and the moment.
+fn told_once<R: Wait>(
+    rt: &R,
+    lock: &Turns<Sum>,
+    pass: &mut TurnPass<Sum>,
+    amount: u64,
+    moment: u64,
+) -> (u64, u64, u64)
+    requires { pass.old.lock ≡ lock.now.id }
+    ensures { pass.new.lock ≡ pass.old.lock }
+{
+    let party = pass.number();
+    let told = lock.ask(rt, pass, &Addend { party, amount }, moment);
+    (told.answer, told.place, told.used)
+}
+
+/// The one party asks with 5 and with 7, and the lock is closed: what it is told each time, the sum, and the number of
+/// the calls.
+fn ask_twice<R: Wait>(
+    rt: &R,
+    lock: Turns<Sum>,
+    mut passes: Vec<TurnPass<Sum>>,
+) -> ([(u64, u64, u64); 2], (u64, u64))
+    requires parties { lock.id.parties ≡ 1 }
+    requires count { vec_len passes ≡ 1 }
+    requires lock { All (λ p. p.lock ≡ lock.id) passes.items }
+{
+    let mut pass = passes.pop().unwrap();
+    let first = told_once(rt, &lock, &mut pass, 5, 100);
+    let second = told_once(rt, &lock, &mut pass, 7, 99);
+    passes.push_reserved(pass);
+    let (sum, calls) = lock.close(passes);
+    ([first, second], (sum.total, calls))
+}
+
 #[test]
 fn answers_are_the_sums_before(rt: HostRuntime) -> Result<(), Fail> {
     let made = Turns::make(rt.alloc(), Sum { total: 0 }, 1);
     assert!(rt; made.is_ok());
-    let Ok((lock, mut passes)) = made else {
+    let Ok((lock, passes)) = made else {
         return Ok(());
     };
-    let mut pass = passes.pop().unwrap();
-    let party = pass.number();
-    assert_eq!(rt; party, 0);
-    let first = lock.ask(&rt, &mut pass, &Addend { party, amount: 5 }, 100);
-    let second = lock.ask(&rt, &mut pass, &Addend { party, amount: 7 }, 99);
-    assert_eq!(rt; (first.answer, first.place, first.used), (0, 0, 100));
-    assert_eq!(rt; (second.answer, second.place, second.used), (5, 1, 99));
-    passes.push_reserved(pass);
-    let (sum, calls) = lock.close(passes);
-    assert_eq!(rt; (sum.total, calls), (12, 2));
+    let told = ask_twice(&rt, lock, passes);
+    assert_eq!(rt; told, ([(0, 0, 100), (5, 1, 99)], (12, 2)));
     Ok(())
 }
 
