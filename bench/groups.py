@@ -1,5 +1,4 @@
 import os
-import resource
 import sys
 import tempfile
 
@@ -45,23 +44,45 @@ def queued_users(lines):
     return licence(1), options, script
 
 
-def full_pools():
-    """64 pools under an options file of 4,096 lines and 65,536 members, and one request."""
-    pools = "".join(f'INCREMENT mill{i} maker 1.0 permanent 9 SIGN="91BB 0431"\n' for i in range(63))
+def full_pools(pool, rule):
+    """63 pools more under an options file of 4,096 lines and 65,536 members, with these rule lines, and one request."""
     members = [f"m{i * 7919 % 65536:05}" for i in range(65536)]
     groups = "".join(f"GROUP g{i % 256} {' '.join(members[i * 64:i * 64 + 64])}\n" for i in range(1024))
-    rules = "".join(f"MAX 9 mill{i % 63} GROUP g{i % 256}\n" for i in range(3072))
-    return licence(1) + pools, groups + rules, line(1790030000, 0, 0, "CHECKOUT")
+    rules = "".join(f"{rule(i)} GROUP g{i % 256}\n" for i in range(3072))
+    licences = "".join(f'INCREMENT {pool(i)} permanent 9 SIGN="91BB 0431"\n' for i in range(63))
+    return licence(1) + licences, groups + rules, line(1790030000, 0, 0, "CHECKOUT")
 
 
-def seconds(files, more=0):
+def words_on(files, more):
+    """The words of a replay on these files, by so many further options files."""
     licences, options, script = files
     write("licence", licences)
     write("options", options)
     write("script", script)
-    lines = script.count("\n")
-    words = [tool, "replay", "licence", "options", "script"] + ["options"] * more
-    return least_seconds(words, lambda out: out.count(b"\n") == lines)
+    return [tool, "replay", "licence", "options", "script"] + ["options"] * more
+
+
+def seconds(files, more=0):
+    lines = files[2].count("\n")
+    return least_seconds(words_on(files, more), lambda out: out.count(b"\n") == lines)
+
+
+def megabytes(files, more=0):
+    """What a replay has resident at most."""
+    words = words_on(files, more)
+    with open(os.devnull, "wb") as nowhere:
+        child = os.posix_spawn(tool, words, os.environ, file_actions=[(os.POSIX_SPAWN_DUP2, nowhere.fileno(), 1)])
+    _, status, usage = os.wait4(child, 0)
+    if status:
+        sys.exit(f"bench: the replay ended with {os.waitstatus_to_exitcode(status)}")
+    return usage.ru_maxrss / 1024
+
+
+def tell_full(what, files):
+    """Tells time and memory of pools at the limits, by one options file and by four."""
+    one, four = seconds(files), seconds(files, 3)
+    print(f"64 pools at the limits, {what}: {one * 1000:.0f} ms, {megabytes(files):.0f} MB; four options files: {four * 1000:.0f} ms, {megabytes(files, 3):.0f} MB")
+    return one
 
 
 tool = program()
@@ -69,10 +90,15 @@ with tempfile.TemporaryDirectory() as folder:
     os.chdir(folder)
     lingering = seconds(lingering_users()) / 8192
     few, many = seconds(queued_users(20)), seconds(queued_users(220))
-    full, four = seconds(full_pools()), seconds(full_pools(), 3)
-queued = (many - few) / 200
-print(f"a line with 4,096 users: {lingering * 1000:.3f} ms")
-print(f"a line with 20 queued: {queued * 1000:.3f} ms")
-print(f"64 pools at the limits: {full * 1000:.0f} ms, with four options files {four * 1000:.0f} ms")
-print(f"at most {resource.getrusage(resource.RUSAGE_CHILDREN).ru_maxrss // 1024} MB")
-sys.exit(max(lingering, queued) > 0.005 or full > 0.2)
+    queued = (many - few) / 200
+    print(f"a line with 4,096 users: {lingering * 1000:.3f} ms")
+    print(f"a line with 20 queued: {queued * 1000:.3f} ms")
+    spread = full_pools(lambda i: f"mill{i} maker 1.0", lambda i: f"MAX 9 mill{i % 63}")
+    alike = full_pools(lambda i: f"mill maker {i + 2}.0", lambda i: "MAX 9 mill")
+    barred = full_pools(lambda i: f"mill{i} maker 1.0", lambda i: "EXCLUDEALL")
+    full = [
+        tell_full("MAX lines over 63 features", spread),
+        tell_full("MAX lines of one feature", alike),
+        tell_full("EXCLUDEALL lines", barred),
+    ]
+sys.exit(max(lingering, queued) > 0.005 or max(full) > 0.2)

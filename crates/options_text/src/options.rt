@@ -11,6 +11,7 @@ ghost use Rattle.options_text.specs.Parts.{file_of};
 use crate::entry::Entry;
 use crate::fault::OptionsFault;
 use crate::keyword::LogKeyword;
+use crate::lines::RuleLines;
 use crate::parts::{Parts, sort};
 use crate::reading::read_entries;
 use crate::undefined::first_undefined;
@@ -27,7 +28,7 @@ use std::marker::Model;
 #[derive(Drop)]
 pub struct Options {
     roster: Roster,
-    lines: Vec<RuleLine>,
+    lines: RuleLines,
     notes: Vec<Note>,
     logs: Vec<LogKeyword>,
 }
@@ -37,9 +38,9 @@ impl Model for Options {
 
     ghost Value = { OptionsFile };
 
-    ghost view = { λ o. record { groups = o.roster; lines = o.lines.items; notes = o.notes.items; logs = o.logs.items } };
+    ghost view = { λ o. record { groups = o.roster; lines = o.lines; notes = o.notes.items; logs = o.logs.items } };
 
-    ghost invariant = { λ o. IsSaid (record { groups = o.roster; lines = o.lines.items; notes = o.notes.items; logs = o.logs.items }) };
+    ghost invariant = { λ o. IsSaid (record { groups = o.roster; lines = o.lines; notes = o.notes.items; logs = o.logs.items }) };
 }
 
 impl Options {
@@ -67,6 +68,15 @@ impl Options {
         ensures within { list_all (λ l. is_within_limits l.rule) self.now.lines ≡ true }
     {
         self.lines.as_slice()
+    }
+
+    /// The rules, in the order of the file, for the rules of its pools, which share them.
+    pub fn rule_lines(&self) -> &RuleLines
+        ensures lines { result.now ≡ self.now.lines }
+        ensures once { (line : ℕ) → count_by (λ l. l.line == line) self.now.lines ≤ 1 }
+        ensures within { list_all (λ l. is_within_limits l.rule) self.now.lines ≡ true }
+    {
+        &self.lines
     }
 
     /// A note for each line that isn't acted on, in the order of the file.
@@ -125,7 +135,7 @@ pub fn read_options(alloc: Global, file: &[u8]) -> Result<Options, OptionsFault>
     let parts = read_parts(alloc, file)?;
     Ok(Options {
         roster: Roster::of(alloc, parts.groups)?,
-        lines: parts.lines,
+        lines: RuleLines::of(alloc, parts.lines)?,
         notes: parts.notes,
         logs: parts.logs,
     })

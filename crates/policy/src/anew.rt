@@ -7,10 +7,11 @@ ghost use Rattle.options_machine.specs.State.{same_charge};
 ghost use Rattle.options_machine.specs.Decide.{number_of_limit};
 ghost use Rattle.options_machine.specs.Step.{holders_anew, lingering_anew, next_charge, times, with_charges_anew};
 
+use crate::limits::LentLimit;
 use crate::lists::{Lists, holders_charged, lingering_charged};
 use crate::rules::DeskRules;
 use lic_types::Client;
-use options_machine::{Charge, Holder, Limit, Lingerer};
+use options_machine::{Charge, Holder, Lingerer};
 
 /// How many of these entries have the charge.
 fn given(holders: &[Holder], lingering: &[Lingerer], charge: &Charge) -> usize
@@ -26,16 +27,17 @@ fn is_next(
     holders: &[Holder],
     lingering: &[Lingerer],
     client: &Client,
-    limit: &Limit,
+    limit: &LentLimit<'_>,
 ) -> bool
     ensures { result ≡ (applies rules.now.groups client.now limit.now.line && nat_lt (times (map (λ h. h.charge) holders.now ++ map (λ l. l.charge) lingering.now) limit.now.line.line) limit.now.number) }
 {
-    rules.applies(client, &limit.line)
+    rules.applies(client, limit.line)
         && given(holders, lingering, &Charge::Reserve(limit.line.line)) < limit.number as usize
 }
 
 /// The first RESERVE line that speaks of the client and was given fewer times than its cut number, where these entries
 /// were charged before.
+#[tactic(auto, using(crate::proofs::Finds::next_item))]
 fn next_line(
     rules: &DeskRules,
     holders: &[Holder],
@@ -44,11 +46,14 @@ fn next_line(
 ) -> Option<u32>
     ensures { result ≡ option_map number_of_limit (find (λ m. applies rules.now.groups client.now m.line && nat_lt (times (map (λ h. h.charge) holders.now ++ map (λ l. l.charge) lingering.now) m.line.line) m.number) rules.now.reserves) }
 {
-    rules
-        .reserves()
-        .iter()
-        .find(|limit| is_next(rules, holders, lingering, client, limit))
-        .map(|limit| limit.line.line)
+    let limits = rules.reserves();
+    for i in 0..limits.len() {
+        let limit = limits.at(i);
+        if is_next(rules, holders, lingering, client, &limit) {
+            return Some(limit.line.line);
+        }
+    }
+    None
 }
 
 /// The charge that comes next, where these entries were charged before.

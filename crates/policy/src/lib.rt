@@ -7,6 +7,8 @@
 mod anew;
 mod answers;
 mod change;
+mod chosen;
+mod limits;
 mod lists;
 mod matching;
 mod members;
@@ -17,6 +19,7 @@ mod selection;
 
 pub use answers::{glance, step};
 pub use counter::{Asked, Counter, Glance};
+pub use limits::{LentLimit, Limits};
 pub use options_machine::{
     Charge, Cut, Entry, Holder, Kind, Limit, Lingerer, Queuer, Reply, Request, matches,
 };

@@ -8,9 +8,10 @@ ghost use Rattle.options_machine.specs.State.{charges, in_use, is_holder, is_que
 ghost use Rattle.options_machine.specs.Decide.{decide, has_room, is_left_by, is_reached, lingering_charge, match_count, number_of_limit, reached_max_line, reserve_line_with_room};
 ghost use Rattle.options_machine.specs.Settle.{in_time, serve, settle, timely, with_holder, with_offer, with_seat, with_seat_again, without_first};
 
+use crate::limits::LentLimit;
 use crate::rules::DeskRules;
 use lic_types::{Client, MOMENT_END, RuleLine};
-use options_machine::{Charge, Decision, Holder, Limit, Lingerer, Queuer};
+use options_machine::{Charge, Decision, Holder, Lingerer, Queuer};
 
 /// The lists of a book.
 #[derive(Drop)]
@@ -90,41 +91,48 @@ fn retaken(lists: &Lists, client: &Client) -> Option<Charge>
 
 /// Whether a MAX line speaks of the client, and at least its number of seats, held or lingering, are of clients of whom
 /// it speaks.
-fn is_reached(rules: &DeskRules, lists: &Lists, client: &Client, limit: &Limit) -> bool
+fn is_reached(rules: &DeskRules, lists: &Lists, client: &Client, limit: &LentLimit<'_>) -> bool
     ensures { result ≡ is_reached rules.now (state_of lists.now) client.now limit.now }
 {
-    rules.applies(client, &limit.line)
-        && limit.number as usize <= matched(rules, lists, &limit.line)
+    rules.applies(client, limit.line) && limit.number as usize <= matched(rules, lists, limit.line)
 }
 
 /// The first MAX line that speaks of the client and is reached.
+#[tactic(auto, using(crate::proofs::Finds::next_item))]
 fn reached(rules: &DeskRules, lists: &Lists, client: &Client) -> Option<u32>
     ensures { result ≡ reached_max_line rules.now (state_of lists.now) client.now }
 {
-    rules
-        .maxes()
-        .iter()
-        .find(|limit| is_reached(rules, lists, client, limit))
-        .map(|limit| limit.line.line)
+    let limits = rules.maxes();
+    for i in 0..limits.len() {
+        let limit = limits.at(i);
+        if is_reached(rules, lists, client, &limit) {
+            return Some(limit.line.line);
+        }
+    }
+    None
 }
 
 /// Whether a RESERVE line speaks of the client and has fewer charges than its cut number.
-fn has_room(rules: &DeskRules, lists: &Lists, client: &Client, limit: &Limit) -> bool
+fn has_room(rules: &DeskRules, lists: &Lists, client: &Client, limit: &LentLimit<'_>) -> bool
     ensures { result ≡ has_room rules.now (state_of lists.now) client.now limit.now }
 {
-    rules.applies(client, &limit.line)
+    rules.applies(client, limit.line)
         && charges(lists, &Charge::Reserve(limit.line.line)) < limit.number as usize
 }
 
 /// The first RESERVE line that speaks of the client and has room.
+#[tactic(auto, using(crate::proofs::Finds::next_item))]
 fn first_with_room(rules: &DeskRules, lists: &Lists, client: &Client) -> Option<u32>
     ensures { result ≡ option_map number_of_limit (find (has_room rules.now (state_of lists.now) client.now) rules.now.reserves) }
 {
-    rules
-        .reserves()
-        .iter()
-        .find(|limit| has_room(rules, lists, client, limit))
-        .map(|limit| limit.line.line)
+    let limits = rules.reserves();
+    for i in 0..limits.len() {
+        let limit = limits.at(i);
+        if has_room(rules, lists, client, &limit) {
+            return Some(limit.line.line);
+        }
+    }
+    None
 }
 
 /// The first RESERVE line that speaks of the client and has room, while fewer seats are in use than there are.

@@ -4,8 +4,8 @@ ghost use Rattle.seat_counters.specs.Counts.{first_line, has_seat, is_charged, i
 ghost use Rattle.options_machine.specs.Rules.{applies};
 
 use lic_types::Client;
-use options_machine::{Charge, Limit};
-use policy::DeskRules;
+use options_machine::Charge;
+use policy::{DeskRules, LentLimit, Limits};
 
 /// The count with one more where the test passed.
 pub(crate) fn more_if(count: u32, passes: bool) -> u32
@@ -23,38 +23,38 @@ pub(crate) fn less_if(count: u32, passes: bool) -> u32
 }
 
 /// Whether the charge is to this RESERVE line.
-fn is_charged(charge: &Charge, limit: &Limit) -> bool
+fn is_charged(charge: &Charge, limit: &LentLimit<'_>) -> bool
     ensures { result ≡ is_charged charge.now limit.now }
 {
     *charge == Charge::Reserve(limit.line.line)
 }
 
 /// One more at the RESERVE line of the charge.
-pub(crate) fn raise_charged(counts: &mut [u32], limits: &[Limit], charge: &Charge)
+pub(crate) fn raise_charged(counts: &mut [u32], limits: &Limits, charge: &Charge)
     requires same { length counts.old ≡ length limits.now }
     requires small { All (λ n. n + 1 < 2 ^ 32) counts.old }
     ensures { counts.new ≡ with_more (is_charged charge.now) limits.now counts.old }
 {
     for i in 0..counts.len() {
-        counts[i] = more_if(counts[i], is_charged(charge, &limits[i]));
+        counts[i] = more_if(counts[i], is_charged(charge, &limits.at(i)));
     }
 }
 
 /// One less at the RESERVE line of the charge.
-pub(crate) fn lower_charged(counts: &mut [u32], limits: &[Limit], charge: &Charge)
+pub(crate) fn lower_charged(counts: &mut [u32], limits: &Limits, charge: &Charge)
     requires same { length counts.old ≡ length limits.now }
     ensures { counts.new ≡ with_less (is_charged charge.now) limits.now counts.old }
 {
     for i in 0..counts.len() {
-        counts[i] = less_if(counts[i], is_charged(charge, &limits[i]));
+        counts[i] = less_if(counts[i], is_charged(charge, &limits.at(i)));
     }
 }
 
 /// Whether this MAX line speaks of the client.
-fn speaks_of(rules: &DeskRules, client: &Client, limit: &Limit) -> bool
+fn speaks_of(rules: &DeskRules, client: &Client, limit: &LentLimit<'_>) -> bool
     ensures { result ≡ speaks_of rules.now client.now limit.now }
 {
-    rules.applies(client, &limit.line)
+    rules.applies(client, limit.line)
 }
 
 /// One more at each MAX line that speaks of the client.
@@ -65,7 +65,7 @@ pub(crate) fn raise_matched(counts: &mut [u32], rules: &DeskRules, client: &Clie
 {
     let limits = rules.maxes();
     for i in 0..counts.len() {
-        counts[i] = more_if(counts[i], speaks_of(rules, client, &limits[i]));
+        counts[i] = more_if(counts[i], speaks_of(rules, client, &limits.at(i)));
     }
 }
 
@@ -76,28 +76,28 @@ pub(crate) fn lower_matched(counts: &mut [u32], rules: &DeskRules, client: &Clie
 {
     let limits = rules.maxes();
     for i in 0..counts.len() {
-        counts[i] = less_if(counts[i], speaks_of(rules, client, &limits[i]));
+        counts[i] = less_if(counts[i], speaks_of(rules, client, &limits.at(i)));
     }
 }
 
 /// A count of 0 for each line, for which there is room.
-pub(crate) fn clear_for(counts: &mut Vec<u32>, limits: &[Limit])
+pub(crate) fn clear_for(counts: &mut Vec<u32>, limits: &Limits)
     requires { length limits.now ≤ vec_capacity counts.old }
     ensures counts { counts.new.items ≡ map (λ m. 0) limits.now }
     ensures room { vec_capacity counts.new ≡ vec_capacity counts.old }
 {
     counts.clear();
-    for _limit in limits {
+    for _i in 0..limits.len() {
         counts.push_reserved(0);
     }
 }
 
 /// Whether a MAX line speaks of the client and its count has come to its number. The count is looked at first, since it
 /// costs less.
-fn is_used_up(rules: &DeskRules, client: &Client, limit: &Limit, count: u32) -> bool
+fn is_used_up(rules: &DeskRules, client: &Client, limit: &LentLimit<'_>, count: u32) -> bool
     ensures { result ≡ is_used_up rules.now client.now limit.now count }
 {
-    limit.number <= count && rules.applies(client, &limit.line)
+    limit.number <= count && rules.applies(client, limit.line)
 }
 
 /// The number of the first MAX line that speaks of the client and whose count has come to its number.
@@ -107,8 +107,9 @@ pub(crate) fn first_used_up(rules: &DeskRules, client: &Client, counts: &[u32]) 
 {
     let limits = rules.maxes();
     for i in 0..counts.len() {
-        if is_used_up(rules, client, &limits[i], counts[i]) {
-            return Some(limits[i].line.line);
+        let limit = limits.at(i);
+        if is_used_up(rules, client, &limit, counts[i]) {
+            return Some(limit.line.line);
         }
     }
     None
@@ -116,10 +117,10 @@ pub(crate) fn first_used_up(rules: &DeskRules, client: &Client, counts: &[u32]) 
 
 /// Whether a RESERVE line speaks of the client and its count is below its cut number. The count is looked at first,
 /// since it costs less.
-fn has_seat(rules: &DeskRules, client: &Client, limit: &Limit, count: u32) -> bool
+fn has_seat(rules: &DeskRules, client: &Client, limit: &LentLimit<'_>, count: u32) -> bool
     ensures { result ≡ has_seat rules.now client.now limit.now count }
 {
-    count < limit.number && rules.applies(client, &limit.line)
+    count < limit.number && rules.applies(client, limit.line)
 }
 
 /// The number of the first RESERVE line that speaks of the client and whose count is below its cut number.
@@ -129,8 +130,9 @@ pub(crate) fn first_with_seat(rules: &DeskRules, client: &Client, counts: &[u32]
 {
     let limits = rules.reserves();
     for i in 0..counts.len() {
-        if has_seat(rules, client, &limits[i], counts[i]) {
-            return Some(limits[i].line.line);
+        let limit = limits.at(i);
+        if has_seat(rules, client, &limit, counts[i]) {
+            return Some(limit.line.line);
         }
     }
     None

@@ -15,7 +15,7 @@ write_left-requires c =
     let notes : List Note → Type 0 = λ xs. AreRising (map (λ (n : Note). n.line) xs) in
     record {
       groups = subst groups (sym c.groups.ensures) (all_rising (map (λ (g : GroupLine). g.line) c.options.inside.roster) c.options.invariant.orderly.groups_rise);
-      lines = subst lines (sym c.as_slice.ensures.value) (all_rising (map (λ (l : RuleLine). l.line) c.options.inside.lines.items) c.options.invariant.orderly.lines_rise);
+      lines = subst lines (sym c.as_slice.ensures) (all_rising (map (λ (l : RuleLine). l.line) c.options.inside.lines) c.options.invariant.orderly.lines_rise);
       notes = subst notes (sym c.as_slice-2.ensures.value) (all_rising (map (λ (n : Note). n.line) c.options.inside.notes.items) c.options.invariant.orderly.notes_rise);
       paired = ap length c.as_slice-3.ensures.value ∙ (c.options.invariant.orderly.paired ∙ sym (ap length c.as_slice-2.ensures.value));
     }

@@ -1,0 +1,17 @@
+use Rattle.std.proofs.Common.{◌≡◌, ◌<◌, ◌-◌, ℕ, Bool, cond, List, Some, length, get_or, slice_get, ap, sym, ◌∙◌, arith}
+use Rattle.options_machine.specs.declared.limits.Limit.{Limit}
+use Rattle.seat_counters.specs.Counts.{speaks_of}
+use Rattle.seat_counters.proofs.Loops.{later_drop, lowered}
+use Rattle.seat_counters.proofs.changes.lower_matched.Goals as goal
+
+pub loop-i-preserved : goal.loop-i-preserved
+loop-i-preserved c =
+    let counts : List ℕ = c.loop-i.counts in
+    let i : ℕ = c.loop-i.i in
+    let within : i < length counts = omega (arith, c.loop-i-test.true) in
+    let here : slice_get c.args.rules.now.maxes i ≡ Some c.at.result = ap (λ (ms : List Limit). slice_get ms c.loop-i.i) (sym c.maxes-limits.ensures) ∙ c.at.ensures in
+    let value : c.less_if.result ≡ get_or counts i 0 - cond (speaks_of c.args.rules.now c.args.client.now c.at.result) 1 0 = c.less_if.ensures ∙ ap (λ (b : Bool). get_or counts i 0 - cond b 1 0) c.speaks_of.ensures in
+    record {
+      whole = lowered (speaks_of c.args.rules.now c.args.client.now) c.args.rules.now.maxes counts i c.at.result c.less_if.result within here value ∙ c.loop-i.invariant.whole;
+      later = later_drop counts c.args.counts.now i c.less_if.result c.loop-i.invariant.later;
+    }
