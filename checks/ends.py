@@ -10,8 +10,10 @@ A case begins with a line `case: NAME`, and then has lines `FIELD: VALUE`:
               reads), or `room N`, a file that takes N bytes
     status, stdout, stderr
               what is wanted. A stdout of `any` isn't compared.
+    cut       names of files, each of which is also tried cut after each of its bytes: it is read, or refused with its own line
 
-Values have Python's escapes, as \\n, \\t, \\x00 and \\xff. What a case leaves out is as in the case `usual`.
+Values have Python's escapes, as \\n, \\t, \\x00 and \\xff, and `{N*TEXT}` in them, with any TEXT of values, is TEXT N times. What a
+case leaves out is as in the case `usual`.
 """
 
 import ast
@@ -25,13 +27,23 @@ import tempfile
 import threading
 
 CASES = sys.argv[2] if len(sys.argv) > 2 else "checks/ends.cases"
-WANTED = ("words", "out", "err", "status", "stdout", "stderr")
+WANTED = ("words", "out", "err", "status", "stdout", "stderr", "cut")
 SECONDS = 10
+
+# The status and the line of a file that is refused.
+REFUSALS = {
+    "licence": (3, rb"licence: line \d+: [a-z]+[ a-z0-9]*\n"),
+    "options": (4, rb"options: line \d+: [a-z ]+\n"),
+    "script": (5, rb"script: line \d+: [a-z ]+\n"),
+}
 
 
 def text(value):
-    """The bytes of a value with escapes."""
-    return ast.literal_eval("b'" + value.replace("'", "\\'") + "'")
+    """The bytes of a value with escapes and repetitions."""
+    held, count = ast.literal_eval("b'" + value.replace("'", "\\'") + "'"), 1
+    while count:
+        held, count = re.subn(rb"\{(\d+)\*([^{}]*)\}", lambda found: int(found[1]) * found[2], held)
+    return held
 
 
 def cases():
@@ -122,13 +134,18 @@ def run(program, fields):
     return ran.returncode, written(streams[0], ran.stdout), written(streams[1], ran.stderr)
 
 
+def lay_all(fields):
+    """Makes the files of a case."""
+    for name, value in fields.items():
+        if name not in WANTED:
+            lay(name, value)
+
+
 def faults(program, fields):
     """What differs from what is wanted."""
     with tempfile.TemporaryDirectory() as folder:
         os.chdir(folder)
-        for name, value in fields.items():
-            if name not in WANTED:
-                lay(name, value)
+        lay_all(fields)
         status, out, err = run(program, fields)
         os.chdir("/")
     wanted = int(fields["status"]), text(fields["stdout"]), text(fields["stderr"])
@@ -140,39 +157,36 @@ def faults(program, fields):
         yield f"standard error {err[:200]} and not {wanted[2][:200]}"
 
 
-def cut(program, example):
-    """Runs `check` and `replay` on an example whose files are cut at each byte: the end is done, or a refusal of that file."""
-    refusals = {"licence": (3, rb"licence: line \d+: [a-z]+[ a-z0-9]*\n"), "options": (4, rb"options: line \d+: [a-z ]+\n"), "script": (5, rb"script: line \d+: [a-z ]+\n")}
-    for name, (refusal, line) in refusals.items():
-        with open(f"{example}/{name}", "rb") as file:
-            whole = file.read()
-        for end in range(len(whole) + 1):
-            files = {other: f"{example}/{other}" for other in refusals}
-            with tempfile.NamedTemporaryFile() as short:
-                short.write(whole[:end])
-                short.flush()
-                files[name] = short.name
-                ran = subprocess.run([program, "replay", *files.values()], capture_output=True, timeout=SECONDS)
-            is_done = ran.returncode == 0 and not ran.stderr
-            is_refused = ran.returncode == refusal and not ran.stdout and re.fullmatch(line, ran.stderr)
-            if not is_done and not is_refused:
-                yield f"{name} of {example} cut at byte {end}: status {ran.returncode}, {ran.stderr}"
+def cut(program, fields):
+    """What is wrong with the ends of a case whose files of the field `cut` are cut: each is done, or a refusal of that file."""
+    if "cut" not in fields:
+        return
+    with tempfile.TemporaryDirectory() as folder:
+        os.chdir(folder)
+        lay_all(fields)
+        for name in fields["cut"].split():
+            whole, (refusal, line) = text(fields[name]), REFUSALS[name]
+            for end in range(len(whole) + 1):
+                with open(name, "wb") as file:
+                    file.write(whole[:end])
+                status, out, err = run(program, fields)
+                is_done = status == 0 and not err and (out or not fields["words"].startswith("check"))
+                is_refused = status == refusal and not out and re.fullmatch(line, err)
+                if not is_done and not is_refused:
+                    yield f"{name} cut at byte {end}: status {status}, {err}"
+        os.chdir("/")
 
 
 def main():
     program = os.path.abspath(sys.argv[1] if len(sys.argv) > 1 else "crates/licence_main/out/licence_main")
     if not os.access(program, os.X_OK):
         sys.exit(f"ends: {program} isn't built: rt ci builds it")
-    example = os.path.abspath("examples/first")
     wrong, count = 0, 0
     for name, fields in list(cases()):
         count += 1
-        for fault in faults(program, fields):
+        for fault in [*faults(program, fields), *cut(program, fields)]:
             print(f"ends: {name}: {fault}")
             wrong += 1
-    for fault in cut(program, example) if CASES == "checks/ends.cases" else ():
-        print(f"ends: {fault}")
-        wrong += 1
     print(f"ends: {count} cases, {wrong} differences")
     return 1 if wrong or not count else 0
 

@@ -162,7 +162,7 @@ fn play_all(rt: &(impl Abort + AllocGlobal + Wait), row: &Row<'_>) -> Result<(),
 
 #[test]
 fn sessions_are_answered_in_order(rt: HostRuntime) -> Result<(), Fail> {
-    let rows = [
+    const ROWS: &[Row<'static>] = &[
         // A torn line ends a session.
         Row {
             stream: b"HELLO ann h1 d1 p1\nCHECKOUT edit 1.0\nBEAT edit",
@@ -263,7 +263,7 @@ fn sessions_are_answered_in_order(rt: HostRuntime) -> Result<(), Fail> {
             ..PLAIN
         },
     ];
-    for row in &rows {
+    for row in ROWS {
         play_all(&rt, row)?;
     }
     Ok(())

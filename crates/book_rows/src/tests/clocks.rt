@@ -3,7 +3,7 @@ use std::alloc::Global;
 use std::process::Abort;
 use std::test::Fail;
 
-/// A call of a clock and the answer that it is to give.
+/// A call of a clock, and the answer that it is to give.
 #[derive(Clone, Copy)]
 enum Call {
     Add(u64, u64, Result<(), ClockFault>),
@@ -12,6 +12,7 @@ enum Call {
     Settle(u64, Option<u64>),
 }
 
+/// Makes the calls of a clock, one after another.
 fn answers(rt: &impl Abort, clock: &mut Clock, calls: &[Call]) {
     for (i, call) in calls.iter().enumerate() {
         match *call {
@@ -27,10 +28,16 @@ fn answers(rt: &impl Abort, clock: &mut Clock, calls: &[Call]) {
     }
 }
 
+/// Makes the calls of a new clock with this room.
+fn new_answers(rt: &(impl Abort + AllocGlobal), room: u32, calls: &[Call]) -> Result<(), Fail> {
+    let mut clock = Clock::make(rt.alloc(), room)?;
+    answers(rt, &mut clock, calls);
+    Ok(())
+}
+
 #[test]
 fn two_fall_due_at_one_moment(rt: HostRuntime) -> Result<(), Fail> {
-    let mut clock = Clock::make(rt.alloc(), 2)?;
-    let calls = [
+    const CALLS: &[Call] = &[
         Call::Add(5, 30, Ok(())),
         Call::Add(3, 30, Ok(())),
         Call::Add(9, 1, Err(ClockFault::Full)),
@@ -39,14 +46,12 @@ fn two_fall_due_at_one_moment(rt: HostRuntime) -> Result<(), Fail> {
         Call::Settle(30, Some(5)),
         Call::Settle(30, None),
     ];
-    answers(&rt, &mut clock, &calls);
-    Ok(())
+    new_answers(&rt, 2, CALLS)
 }
 
 #[test]
 fn refusals_removals_and_the_ends_of_time(rt: HostRuntime) -> Result<(), Fail> {
-    let mut clock = Clock::make(rt.alloc(), 4)?;
-    let calls = [
+    const CALLS: &[Call] = &[
         // Nothing waits.
         Call::Due(None),
         Call::Remove(1, None),
@@ -83,14 +88,12 @@ fn refusals_removals_and_the_ends_of_time(rt: HostRuntime) -> Result<(), Fail> {
         Call::Add(7, 0, Ok(())),
         Call::Settle(0, Some(7)),
     ];
-    answers(&rt, &mut clock, &calls);
-    Ok(())
+    new_answers(&rt, 4, CALLS)
 }
 
 #[test]
 fn the_first_deadline_is_found_after_each_change(rt: HostRuntime) -> Result<(), Fail> {
-    let mut clock = Clock::make(rt.alloc(), 2)?;
-    let calls = [
+    const CALLS: &[Call] = &[
         Call::Add(1, 50, Ok(())),
         Call::Settle(40, None),
         // An earlier one comes when the clock has been asked before.
@@ -104,21 +107,18 @@ fn the_first_deadline_is_found_after_each_change(rt: HostRuntime) -> Result<(), 
         Call::Settle(50, None),
         Call::Settle(60, Some(2)),
     ];
-    answers(&rt, &mut clock, &calls);
-    Ok(())
+    new_answers(&rt, 2, CALLS)
 }
 
 #[test]
 fn no_room_takes_no_deadline(rt: HostRuntime) -> Result<(), Fail> {
-    let mut clock = Clock::make(rt.alloc(), 0)?;
-    let calls = [
+    const CALLS: &[Call] = &[
         Call::Add(1, 1, Err(ClockFault::Full)),
         Call::Due(None),
         Call::Settle(1, None),
         Call::Remove(1, None),
     ];
-    answers(&rt, &mut clock, &calls);
-    Ok(())
+    new_answers(&rt, 0, CALLS)
 }
 
 /// The deadlines in no order, as the simplest clock keeps them.

@@ -76,11 +76,20 @@ fn answer(rt: &impl Abort, seats: &mut SeatRows, client: &Client, call: Call) {
     }
 }
 
+/// Makes the calls of the rows of so many parties, one after another.
+fn new_answers(rt: &(impl Abort + AllocGlobal), parties: u32, calls: &[Call]) -> Result<(), Fail> {
+    assert!(rt; parties <= 256);
+    let mut seats = SeatRows::make(rt.alloc(), parties)?;
+    let client = client()?;
+    for call in calls {
+        answer(rt, &mut seats, &client, *call);
+    }
+    Ok(())
+}
+
 #[test]
 fn seats_come_change_and_go(rt: HostRuntime) -> Result<(), Fail> {
-    let mut seats = SeatRows::make(rt.alloc(), 3)?;
-    let client = client()?;
-    let calls = [
+    const CALLS: &[Call] = &[
         Call::Len(0),
         Call::Put(2, 50),
         Call::Put(0, 40),
@@ -102,17 +111,12 @@ fn seats_come_change_and_go(rt: HostRuntime) -> Result<(), Fail> {
         Call::Get(2, None),
         Call::Len(1),
     ];
-    for call in calls {
-        answer(&rt, &mut seats, &client, call);
-    }
-    Ok(())
+    new_answers(&rt, 3, CALLS)
 }
 
 #[test]
 fn the_silent_go(rt: HostRuntime) -> Result<(), Fail> {
-    let mut seats = SeatRows::make(rt.alloc(), 256)?;
-    let client = client()?;
-    let calls = [
+    const CALLS: &[Call] = &[
         Call::LetOneGo(u64::MAX, None),
         Call::Put(0, 30),
         Call::Put(255, 10),
@@ -134,8 +138,5 @@ fn the_silent_go(rt: HostRuntime) -> Result<(), Fail> {
         Call::LetOneGo(u64::MAX, Some(1)),
         Call::Len(0),
     ];
-    for call in calls {
-        answer(&rt, &mut seats, &client, call);
-    }
-    Ok(())
+    new_answers(&rt, 256, CALLS)
 }

@@ -57,8 +57,7 @@ fn make_call(rt: &impl Abort, table: &mut LingerTable, call: Call) -> Result<(),
 /// There is room for two, and so there are four slots: the fifth that comes finds none left.
 #[test]
 fn more_come_than_there_are_slots(rt: HostRuntime) -> Result<(), Fail> {
-    let mut table = LingerTable::make(rt.alloc(), 2)?;
-    let rows = [
+    const ROWS: &[(Call, Option<u64>, Option<u64>)] = &[
         (Call::Push(b'a', 10), Some(10), None),
         (Call::Push(b'a', 20), Some(10), Some(20)),
         // Of equal clients the first to come goes first.
@@ -73,7 +72,8 @@ fn more_come_than_there_are_slots(rt: HostRuntime) -> Result<(), Fail> {
         (Call::First(b'd', None), Some(7), Some(9)),
         (Call::Go(8, Some(7)), Some(9), None),
     ];
-    for (call, first, second) in rows {
+    let mut table = LingerTable::make(rt.alloc(), 2)?;
+    for &(call, first, second) in ROWS {
         make_call(&rt, &mut table, call)?;
         assert_eq!(rt; until(table.get(0)), first);
         assert_eq!(rt; until(table.get(1)), second);

@@ -1,4 +1,4 @@
-ghost use Rattle.std.specs.Prelude.{◌≡◌, ◌<◌, ◌≤◌, ◌-◌, length};
+ghost use Rattle.std.specs.Prelude.{◌≡◌, ◌<◌, ◌≤◌, ◌-◌, IfOk, length, min};
 
 mod random;
 mod trees;
@@ -93,37 +93,42 @@ fn are_caps(net: &Net, caps: &[u32]) -> bool {
             .all(|(j, cap)| net.cap(j as u32) == *cap)
 }
 
+/// Whether chain(n, k) has this width and these capacities.
+fn is_chain(alloc: Global, n: u32, k: u32, width: u32, caps: &[u32]) -> Result<bool, NoMemory>
+    requires { (2 ≤ n) × (n ≤ 256) × (1 ≤ k) }
+{
+    let net = chain(alloc, n, k)?;
+    Ok(net.width() == width && are_caps(&net, caps))
+}
+
 #[test]
 fn chains_have_their_capacities(rt: HostRuntime) -> Result<(), Fail> {
-    let none: [u32; 0] = [];
-    for (n, k, width, caps) in [
-        (2, 1, 1, [1].as_slice()),
-        (3, 5, 3, none.as_slice()),
-        (5, 2, 2, [4, 3, 2].as_slice()),
-    ] {
-        let net = chain(rt.alloc(), n, k)?;
-        assert_eq!(rt; net.width(), width, "chain({n}, {k})");
-        assert!(rt; are_caps(&net, caps), "chain({n}, {k})");
-    }
+    assert!(rt; is_chain(rt.alloc(), 2, 1, 1, &[1])?);
+    assert!(rt; is_chain(rt.alloc(), 3, 5, 3, &[])?);
+    assert!(rt; is_chain(rt.alloc(), 5, 2, 2, &[4, 3, 2])?);
     Ok(())
+}
+
+/// Chain(n, k) once each of these parties has made so many steps, one after another.
+fn walked(alloc: Global, n: u32, k: u32, walks: &[(u32, u32)]) -> Result<World, NoMemory>
+    requires { (2 ≤ n) × (n ≤ 256) × (1 ≤ k) }
+    ensures { IfOk result (λ w. (w.net.parties ≡ n) × (w.net.width ≡ min k n)) }
+{
+    let mut world = World::make(alloc, chain(alloc, n, k)?)?;
+    for (party, steps) in walks {
+        walk(&mut world, party % n, *steps);
+    }
+    Ok(world)
 }
 
 /// Chain(2, 1) has the number 0 alone and no bit; chain(3, 5) has no stage, two bits and the numbers 0, 1 and 2.
 #[test]
 fn numbers_are_taken_in_order(rt: HostRuntime) -> Result<(), Fail> {
-    let net = chain(rt.alloc(), 2, 1)?;
-    let mut world = World::make(rt.alloc(), net)?;
-    walk(&mut world, 1, 2);
-    assert_eq!(rt; world.place(1), Place::Holding(0));
-    assert!(rt; world.card(0));
-    let net = chain(rt.alloc(), 3, 5)?;
-    let mut world = World::make(rt.alloc(), net)?;
-    walk(&mut world, 2, 2);
-    walk(&mut world, 0, 3);
-    walk(&mut world, 1, 3);
-    assert_eq!(rt; world.place(2), Place::Holding(0));
-    assert_eq!(rt; world.place(0), Place::Holding(1));
-    assert_eq!(rt; world.place(1), Place::Holding(2));
+    let world = walked(rt.alloc(), 2, 1, &[(1, 2)])?;
+    assert!(rt; world.place(1) == Place::Holding(0) && world.card(0));
+    let world = walked(rt.alloc(), 3, 5, &[(2, 2), (0, 3), (1, 3)])?;
+    let places = [world.place(0), world.place(1), world.place(2)];
+    assert_eq!(rt; places, [1, 2, 0].map(Place::Holding));
     assert!(rt; world.bit(0) && world.bit(1));
     Ok(())
 }
@@ -140,6 +145,19 @@ fn fault_of(alloc: Global, caps: &[u32], next: &[u32]) -> Result<Option<NetFault
     .err())
 }
 
+/// The first of these stages, and with which capacities and ways, that isn't refused so or taken.
+fn first_unlike(
+    alloc: Global,
+    cases: &[(&[u32], &[u32], Option<NetFault>)],
+) -> Result<Option<usize>, Fail> {
+    for (i, (caps, next, fault)) in cases.iter().enumerate() {
+        if fault_of(alloc, caps, next)? != *fault {
+            return Ok(Some(i));
+        }
+    }
+    Ok(None)
+}
+
 #[test]
 fn nets_are_refused(rt: HostRuntime) -> Result<(), Fail> {
     let none: [u32; 0] = [];
@@ -154,8 +172,6 @@ fn nets_are_refused(rt: HostRuntime) -> Result<(), Fail> {
         ([0].as_slice(), [1].as_slice(), Some(NetFault::BadCap(0))),
         ([2].as_slice(), [1].as_slice(), None),
     ];
-    for (i, (caps, next, fault)) in cases.iter().enumerate() {
-        assert_eq!(rt; fault_of(rt.alloc(), caps, next)?, *fault, "case {i}");
-    }
+    assert_eq!(rt; first_unlike(rt.alloc(), &cases)?, None);
     Ok(())
 }

@@ -116,6 +116,15 @@ fn three(alloc: Global) -> Result<(KexTable, Out, Out, Out), NoMemory>
     Ok((table, zero, one, two))
 }
 
+/// Parties 0 and 1 hold.
+fn two_hold(table: &KexTable, zero: Out, one: Out) -> Option<(Hold, Hold)>
+    requires zero { zero.table ≡ table.now }
+    requires one { one.table ≡ table.now }
+    ensures { IfSome result (λ t. (t.0.pass.table ≡ table.now) × (t.1.pass.table ≡ table.now)) }
+{
+    Some((hold(table, zero, 3)?, hold(table, one, 3)?))
+}
+
 /// Parties 0 and 1 have passed, and party 2 finds no room. It naps once while it spins.
 fn full_stage<R: Wait>(rt: &R, table: &KexTable, two: Out) -> [Option<Place>; 5]
     requires { two.table ≡ table.now }
@@ -135,24 +144,36 @@ fn full_stage<R: Wait>(rt: &R, table: &KexTable, two: Out) -> [Option<Place>; 5]
     [begun, counted, marked, waiting, place_in(&two)]
 }
 
+/// Where party 2 stands from step to step, and where parties 0 and 1 do.
+fn third_spins<R: Wait>(
+    rt: &R,
+    table: &KexTable,
+    zero: Out,
+    one: Out,
+    two: Out,
+) -> ([Option<Place>; 5], [Option<Place>; 2])
+    requires zero { zero.table ≡ table.now }
+    requires one { one.table ≡ table.now }
+    requires two { two.table ≡ table.now }
+{
+    let zero = inward(table, table.begin(zero), 1);
+    let one = inward(table, table.begin(one), 1);
+    let places = full_stage(rt, table, two);
+    (places, [place_in(&zero), place_in(&one)])
+}
+
 #[test]
 fn two_pass_and_the_third_spins(rt: HostRuntime) -> Result<(), Fail> {
     let (table, zero, one, two) = three(rt.alloc())?;
-    let zero = inward(&table, table.begin(zero), 1);
-    let one = inward(&table, table.begin(one), 1);
-    let places = full_stage(&rt, &table, two);
-    let expected = [
+    let third = [
         Place::Out,
         Place::Mark(0),
         Place::Look(0),
         Place::Spin(0),
         Place::Spin(0),
     ];
-    assert_eq!(rt; places, expected.map(Some));
-    assert_eq!(rt;
-        [place_in(&zero), place_in(&one)],
-        [Some(Place::Naming(0)); 2]
-    );
+    let expected = (third.map(Some), [Some(Place::Naming(0)); 2]);
+    assert_eq!(rt; third_spins(&rt, &table, zero, one, two), expected);
     Ok(())
 }
 
@@ -176,17 +197,30 @@ fn unmarking(table: &KexTable, zero: Hold, two: Out) -> ([Option<Place>; 3], [Pl
     )
 }
 
+/// The numbers and seats of parties 0 and 1, where party 2 stands meanwhile, and where party 0 does.
+fn third_passes(
+    table: &KexTable,
+    zero: Out,
+    one: Out,
+    two: Out,
+) -> Option<([(u32, u32); 2], [Option<Place>; 3], [Place; 2])>
+    requires zero { zero.table ≡ table.now }
+    requires one { one.table ≡ table.now }
+    requires two { two.table ≡ table.now }
+{
+    let (zero, one) = two_hold(table, zero, one)?;
+    let seats = [(zero.number(), zero.seat()), (one.number(), one.seat())];
+    let (waiter, leaver) = unmarking(table, zero, two);
+    Some((seats, waiter, leaver))
+}
+
 #[test]
 fn a_waiter_passes_once_a_leaver_unmarks(rt: HostRuntime) -> Result<(), Fail> {
     let (table, zero, one, two) = three(rt.alloc())?;
-    let zero = hold(&table, zero, 3).expect(&rt, "party 0 holds");
-    let one = hold(&table, one, 3).expect(&rt, "party 1 holds");
-    let seats = [(zero.number(), zero.seat()), (one.number(), one.seat())];
-    assert_eq!(rt; seats, [(0, 0), (1, 1)]);
-    let (waiter, leaver) = unmarking(&table, zero, two);
-    let expected = [Place::Spin(0), Place::Spin(0), Place::Naming(0)];
-    assert_eq!(rt; waiter, expected.map(Some));
-    assert_eq!(rt; leaver, [Place::Unmark(0), Place::Out]);
+    let waiter = [Place::Spin(0), Place::Spin(0), Place::Naming(0)];
+    let leaver = [Place::Unmark(0), Place::Out];
+    let expected = ([(0, 0), (1, 1)], waiter.map(Some), leaver);
+    assert_eq!(rt; third_passes(&table, zero, one, two), Some(expected));
     Ok(())
 }
 
@@ -207,19 +241,29 @@ fn late_mark(table: &KexTable, zero: Hold, two: Out) -> Option<[Option<Place>; 4
     Some([counted, waiting, place_in(&zero), place_in(&two)])
 }
 
+/// Where parties 0 and 2 stand then, and the seat of party 1.
+fn first_goes(table: &KexTable, zero: Out, one: Out, two: Out) -> Option<([Option<Place>; 4], u32)>
+    requires zero { zero.table ≡ table.now }
+    requires one { one.table ≡ table.now }
+    requires two { two.table ≡ table.now }
+{
+    let (zero, one) = two_hold(table, zero, one)?;
+    Some((late_mark(table, zero, two)?, one.seat()))
+}
+
 #[test]
 fn a_late_mark_lets_the_waiter_go(rt: HostRuntime) -> Result<(), Fail> {
     let (table, zero, one, two) = three(rt.alloc())?;
-    let zero = hold(&table, zero, 3).expect(&rt, "party 0 holds");
-    let one = hold(&table, one, 3).expect(&rt, "party 1 holds");
-    let expected = [
+    let places = [
         Place::Mark(0),
         Place::Spin(0),
         Place::Naming(0),
         Place::Spin(0),
     ];
-    assert_eq!(rt; late_mark(&table, zero, two), Some(expected.map(Some)));
-    assert_eq!(rt; one.seat(), 1);
+    assert_eq!(rt;
+        first_goes(&table, zero, one, two),
+        Some((places.map(Some), 1))
+    );
     Ok(())
 }
 

@@ -2,8 +2,9 @@ ghost use Rattle.std.specs.Prelude.{◌^◌, ◌<◌, length};
 
 use feature_lines::{Found, Licence, LicenceFault, NoteKind, read_licence};
 use lic_text::TextFault;
-use lic_types::{Day, Expiry, Name, Version};
+use lic_types::{Expiry, Name, Version};
 use std::alloc::Global;
+use std::process::Abort;
 use std::test::Fail;
 
 /// The fault of a licence.
@@ -15,7 +16,7 @@ fn fault_of(alloc: Global, file: &[u8]) -> Option<LicenceFault>
 
 #[test]
 fn licence_faults(rt: HostRuntime) {
-    let rows: [(&[u8], LicenceFault); 31] = [
+    const ROWS: &[(&[u8], LicenceFault)] = &[
         // Each fault on its own line, in the order of the words.
         (
             b"FEATURE edit\\",
@@ -119,7 +120,7 @@ fn licence_faults(rt: HostRuntime) {
             LicenceFault::BadCount(2),
         ),
     ];
-    for (file, fault) in rows {
+    for &(file, fault) in ROWS {
         assert!(rt; file.len() < 100);
         assert_eq!(rt; fault_of(rt.alloc(), file), Some(fault));
     }
@@ -139,7 +140,7 @@ fn last_day(alloc: Global, file: &[u8]) -> Result<Option<(u16, u8, u8, i32)>, Fa
 
 #[test]
 fn dates_of_the_calendar_and_never(rt: HostRuntime) -> Result<(), Fail> {
-    let rows: [(&[u8], Option<(u16, u8, u8, i32)>); 15] = [
+    const ROWS: &[(&[u8], Option<(u16, u8, u8, i32)>)] = &[
         (b"FEATURE a v 1 permanent 1", None),
         (b"FEATURE a v 1 PermaNent 1", None),
         (b"FEATURE a v 1 1-jan-0 1", None),
@@ -159,7 +160,7 @@ fn dates_of_the_calendar_and_never(rt: HostRuntime) -> Result<(), Fail> {
             Some((9999, 12, 31, 2932896)),
         ),
     ];
-    for (file, day) in rows {
+    for &(file, day) in ROWS {
         assert!(rt; file.len() < 100);
         assert_eq!(rt; last_day(rt.alloc(), file)?, day);
     }
@@ -168,7 +169,7 @@ fn dates_of_the_calendar_and_never(rt: HostRuntime) -> Result<(), Fail> {
 
 #[test]
 fn words_that_are_no_dates(rt: HostRuntime) {
-    let rows: [&[u8]; 16] = [
+    const ROWS: &[&[u8]] = &[
         b"FEATURE a v 1 30-feb-2026 1",
         b"FEATURE a v 1 29-feb-2026 1",
         b"FEATURE a v 1 29-feb-1900 1",
@@ -186,7 +187,7 @@ fn words_that_are_no_dates(rt: HostRuntime) {
         b"FEATURE a v 1 -jan-2026 1",
         b"FEATURE a v 1 2026-jan-01 1",
     ];
-    for file in rows {
+    for &file in ROWS {
         assert!(rt; file.len() < 100);
         assert_eq!(rt; fault_of(rt.alloc(), file), Some(LicenceFault::BadDate(1)));
     }
@@ -212,7 +213,7 @@ fn has(licence: &Licence, pools: usize, count: u32, notes: &[(u32, NoteKind)]) -
 
 #[test]
 fn lines_that_grant_nothing(rt: HostRuntime) -> Result<(), Fail> {
-    let rows: [(&[u8], usize, u32, &[(u32, NoteKind)]); 13] = [
+    const ROWS: &[(&[u8], usize, u32, &[(u32, NoteKind)])] = &[
         (b"", 0, 0, &[]),
         (b"server a\nVendor b\nDAEMON c\nuse_server d\n", 0, 0, &[]),
         (
@@ -279,7 +280,7 @@ fn lines_that_grant_nothing(rt: HostRuntime) -> Result<(), Fail> {
             &[(5, NoteKind::SecondFeature), (6, NoteKind::SecondFeature)],
         ),
     ];
-    for (file, pools, count, notes) in rows {
+    for &(file, pools, count, notes) in ROWS {
         assert!(rt; file.len() < 200);
         let licence = read_licence(rt.alloc(), file)?;
         assert!(rt; has(&licence, pools, count, notes));
@@ -300,7 +301,7 @@ fn lengthened(alloc: Global, front: &[u8], letters: usize, end: &[u8]) -> Result
 /// 8,192 bytes are a line, and 8,193 are too many: on the first line, and behind a good one.
 #[test]
 fn lines_at_their_limit(rt: HostRuntime) -> Result<(), Fail> {
-    let rows: [(&[u8], usize, Option<LicenceFault>); 4] = [
+    const ROWS: &[(&[u8], usize, Option<LicenceFault>)] = &[
         (b"FEATURE a v 1 permanent 1 ", 8166, None),
         (
             b"FEATURE a v 1 permanent 1 ",
@@ -314,7 +315,7 @@ fn lines_at_their_limit(rt: HostRuntime) -> Result<(), Fail> {
             Some(LicenceFault::Line(TextFault::LineTooLong(2))),
         ),
     ];
-    for (front, letters, fault) in rows {
+    for &(front, letters, fault) in ROWS {
         let file = lengthened(rt.alloc(), front, letters, b"\n")?;
         assert!(rt; file.len() < 10000);
         assert_eq!(rt; fault_of(rt.alloc(), file.as_slice()), fault);
@@ -325,7 +326,7 @@ fn lines_at_their_limit(rt: HostRuntime) -> Result<(), Fail> {
 /// Names of 64 bytes are names, and those of 65 aren't.
 #[test]
 fn names_at_their_limit(rt: HostRuntime) -> Result<(), Fail> {
-    let rows: [(&[u8], usize, &[u8], Option<LicenceFault>); 4] = [
+    const ROWS: &[(&[u8], usize, &[u8], Option<LicenceFault>)] = &[
         (b"FEATURE ", 64, b" v 1 permanent 1", None),
         (
             b"FEATURE ",
@@ -341,7 +342,7 @@ fn names_at_their_limit(rt: HostRuntime) -> Result<(), Fail> {
             Some(LicenceFault::BadWord(1, 3)),
         ),
     ];
-    for (front, letters, end, fault) in rows {
+    for &(front, letters, end, fault) in ROWS {
         let file = lengthened(rt.alloc(), front, letters, end)?;
         assert!(rt; file.len() < 200);
         assert_eq!(rt; fault_of(rt.alloc(), file.as_slice()), fault);
@@ -382,29 +383,54 @@ fn sixty_four_pools_and_one_more(rt: HostRuntime) -> Result<(), Fail> {
     Ok(())
 }
 
+/// To where a checkout goes: a pool by its place, a pool that has expired by its day and the day's number, or none.
+#[derive(Debug, Clone, Copy, PartialEq, Eq)]
+enum Route {
+    Pool(usize),
+    Expired(u16, u8, u8, i32),
+    Unknown,
+}
+
+/// A checkout of a feature of this version at this moment, and to where it goes.
+type Checkout = (&'static [u8], &'static [u8], u64, Route);
+
+fn route_of(found: Found) -> Route {
+    match found {
+        Found::Pool(place) => Route::Pool(place),
+        Found::Expired(day) => Route::Expired(day.year, day.month, day.day, day.number),
+        Found::Unknown => Route::Unknown,
+    }
+}
+
+/// Where the licence sends each checkout.
+fn check_routes(
+    rt: &(impl Abort + AllocGlobal),
+    file: &[u8],
+    rows: &[Checkout],
+) -> Result<(), Fail> {
+    assert!(rt; file.len() < 2000);
+    let licence = read_licence(rt.alloc(), file)?;
+    for (feature, version, moment, route) in rows {
+        let feature = Name::read(feature)?;
+        let version = Version::read(version).ok_or("a version")?;
+        assert_eq!(rt; route_of(licence.find(&feature, version, *moment)), *route);
+    }
+    Ok(())
+}
+
 #[test]
 fn a_pool_is_good_to_the_end_of_its_day(rt: HostRuntime) -> Result<(), Fail> {
-    let licence = read_licence(rt.alloc(), b"FEATURE edit acme 2.10 31-dec-2026 1")?;
-    let edit = Name::read(b"edit")?;
-    let asked = Version::read(b"2.1").ok_or("a version")?;
-    let newer = Version::read(b"2.9").ok_or("a version")?;
-    let day = Day {
-        year: 2026,
-        month: 12,
-        day: 31,
-        number: 20818,
-    };
-    assert_eq!(rt; licence.find(&edit, asked, 0), Found::Pool(0));
-    assert_eq!(rt; licence.find(&edit, newer, 0), Found::Unknown);
-    assert_eq!(rt; licence.find(&edit, asked, 1798761599), Found::Pool(0));
-    assert_eq!(rt; licence.find(&edit, asked, 1798761600), Found::Expired(day));
-    assert_eq!(rt; licence.find(&edit, asked, u64::MAX), Found::Expired(day));
-    assert_eq!(rt; licence.find(&edit, newer, 1798761600), Found::Unknown);
-    assert_eq!(rt;
-        licence.find(&Name::read(b"Edit")?, asked, 0),
-        Found::Unknown
-    );
-    Ok(())
+    const END: Route = Route::Expired(2026, 12, 31, 20818);
+    const ROWS: &[Checkout] = &[
+        (b"edit", b"2.1", 0, Route::Pool(0)),
+        (b"edit", b"2.9", 0, Route::Unknown),
+        (b"edit", b"2.1", 1798761599, Route::Pool(0)),
+        (b"edit", b"2.1", 1798761600, END),
+        (b"edit", b"2.1", u64::MAX, END),
+        (b"edit", b"2.9", 1798761600, Route::Unknown),
+        (b"Edit", b"2.1", 0, Route::Unknown),
+    ];
+    check_routes(&rt, b"FEATURE edit acme 2.10 31-dec-2026 1", ROWS)
 }
 
 const SITE: &[u8] = b"# ACME floating licences\n\
@@ -428,23 +454,23 @@ const SITE: &[u8] = b"# ACME floating licences\n\
 
 #[test]
 fn the_licence_of_a_real_site(rt: HostRuntime) -> Result<(), Fail> {
-    assert!(rt; SITE.len() < 2000);
-    let licence = read_licence(rt.alloc(), SITE)?;
-    let end = Some(20818);
-    let rows: [(&[u8], &[u8], u32, Option<i32>, u32); 10] = [
-        (b"edit", b"2024.1", 8, end, 5),
+    const END: Option<i32> = Some(20818);
+    const ROWS: &[(&[u8], &[u8], u32, Option<i32>, u32)] = &[
+        (b"edit", b"2024.1", 8, END, 5),
         (b"edit", b"2023.0", 2, None, 9),
-        (b"view", b"2024.1", 10, end, 10),
-        (b"mesh", b"2024.1", 4, end, 11),
-        (b"solve", b"2024.1", 4, end, 12),
+        (b"view", b"2024.1", 10, END, 10),
+        (b"mesh", b"2024.1", 4, END, 11),
+        (b"solve", b"2024.1", 4, END, 12),
         (b"solve", b"2024.1", 4, Some(20999), 13),
-        (b"post", b"2024.1", 2, end, 14),
+        (b"post", b"2024.1", 2, END, 14),
         (b"cad", b"2024.1", 6, None, 15),
         (b"cam", b"2024.1", 1, None, 16),
         (b"plot", b"1.5", 20, None, 18),
     ];
-    assert_eq!(rt; licence.pools().len(), rows.len());
-    for (pool, (name, version, count, day, line)) in licence.pools().iter().zip(&rows) {
+    assert!(rt; SITE.len() < 2000);
+    let licence = read_licence(rt.alloc(), SITE)?;
+    assert_eq!(rt; licence.pools().len(), ROWS.len());
+    for (pool, (name, version, count, day, line)) in licence.pools().iter().zip(ROWS) {
         assert!(rt; pool.name == Name::read(name)?);
         assert!(rt; pool.version_text == Name::read(version)?);
         assert!(rt; pool.vendor == Name::read(b"acme")?);
@@ -466,16 +492,17 @@ fn day_number(expiry: &Expiry) -> Option<i32> {
 /// An older pool serves once the newer one has expired, and the first that serves does.
 #[test]
 fn the_first_pool_that_serves(rt: HostRuntime) -> Result<(), Fail> {
-    assert!(rt; SITE.len() < 2000);
-    let licence = read_licence(rt.alloc(), SITE)?;
-    let old = Version::read(b"2023").ok_or("a version")?;
-    let new = Version::read(b"2024.1").ok_or("a version")?;
-    let edit = Name::read(b"edit")?;
-    let solve = Name::read(b"solve")?;
-    assert_eq!(rt; licence.find(&edit, old, 1780000000), Found::Pool(0));
-    assert_eq!(rt; licence.find(&edit, old, 1798761600), Found::Pool(1));
-    assert_eq!(rt; licence.find(&solve, new, 1780000000), Found::Pool(4));
-    assert_eq!(rt; licence.find(&solve, new, 1798761600), Found::Pool(5));
-    assert!(rt; matches!(licence.find(&edit, new, 1798761600), Found::Expired(_)));
-    Ok(())
+    const ROWS: &[Checkout] = &[
+        (b"edit", b"2023", 1780000000, Route::Pool(0)),
+        (b"edit", b"2023", 1798761600, Route::Pool(1)),
+        (b"solve", b"2024.1", 1780000000, Route::Pool(4)),
+        (b"solve", b"2024.1", 1798761600, Route::Pool(5)),
+        (
+            b"edit",
+            b"2024.1",
+            1798761600,
+            Route::Expired(2026, 12, 31, 20818),
+        ),
+    ];
+    check_routes(&rt, SITE, ROWS)
 }

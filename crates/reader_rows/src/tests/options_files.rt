@@ -1,7 +1,7 @@
 ghost use Rattle.std.specs.Prelude.{◌^◌, ◌<◌, length};
 
 use lic_text::TextFault;
-use lic_types::{Name, NameFault, Note, NoteKind, Rule, RuleLine, Who, WhoKind};
+use lic_types::{Name, Note, NoteKind, Rule, Who, WhoKind};
 use options_text::*;
 use std::alloc::Global;
 use std::process::Abort;
@@ -31,7 +31,7 @@ fn check_fault(rt: &(impl Abort + AllocGlobal), row: &FaultRow) -> Result<(), Fa
 #[test]
 fn options_faults(rt: HostRuntime) -> Result<(), Fail> {
     use OptionsFault::*;
-    let rows: [FaultRow; 16] = [
+    const ROWS: &[FaultRow] = &[
         (
             b"NOLOG\\",
             Line(TextFault::OpenContinuation(1)),
@@ -61,7 +61,7 @@ fn options_faults(rt: HostRuntime) -> Result<(), Fail> {
         (b"LINGER edit\x7f x", BadName(1), BadName(2)),
         (b"\nGROUP g ann \x80", BadName(2), BadName(3)),
     ];
-    for row in &rows {
+    for row in ROWS {
         check_fault(&rt, row)?;
     }
     Ok(())
@@ -70,7 +70,7 @@ fn options_faults(rt: HostRuntime) -> Result<(), Fail> {
 /// A group is looked for in the whole file, and only where no line is at fault.
 #[test]
 fn unknown_groups_come_last(rt: HostRuntime) {
-    let rows: [(&[u8], Option<OptionsFault>); 6] = [
+    const ROWS: &[(&[u8], Option<OptionsFault>)] = &[
         (
             b"GROUP g ann\n\n\nEXCLUDE edit GROUP h\n",
             Some(OptionsFault::UnknownGroup(4)),
@@ -93,7 +93,7 @@ fn unknown_groups_come_last(rt: HostRuntime) {
         ),
         (b"RESERVE 1 edit host_group g\nhost_Group g h1\n", None),
     ];
-    for (file, fault) in rows {
+    for &(file, fault) in ROWS {
         assert!(rt; file.len() < 100);
         assert_eq!(rt; fault_of(rt.alloc(), file), fault);
     }
@@ -106,16 +106,6 @@ fn times(rt: &(impl Abort + AllocGlobal), line: &[u8], count: usize) -> Result<V
     }
     assert!(rt; file.len() < 1 << 20);
     Ok(file)
-}
-
-#[test]
-fn lines_at_their_limit(rt: HostRuntime) -> Result<(), Fail> {
-    for (count, fault) in [(4096, None), (4097, Some(OptionsFault::TooMany(4097)))] {
-        let file = times(&rt, b"NOLOG\n", count)?;
-        assert!(rt; file.len() < 1 << 20);
-        assert_eq!(rt; fault_of(rt.alloc(), file.as_slice()), fault);
-    }
-    Ok(())
 }
 
 /// A front, a letter this many times, and an end.
@@ -133,10 +123,24 @@ fn lengthened(
     Ok(file)
 }
 
+/// A file with a letter this many times between a front and an end has this fault.
+fn check_length(
+    rt: &(impl Abort + AllocGlobal),
+    front: &[u8],
+    letters: usize,
+    end: &[u8],
+    fault: Option<OptionsFault>,
+) -> Result<(), Fail> {
+    let file = lengthened(rt, front, letters, end)?;
+    assert!(rt; file.len() < 10_000);
+    assert_eq!(rt; fault_of(rt.alloc(), file.as_slice()), fault);
+    Ok(())
+}
+
 /// 8,192 bytes are a line, and 8,193 are too many: on the first line, and behind a good one.
 #[test]
 fn bytes_of_a_line_at_their_limit(rt: HostRuntime) -> Result<(), Fail> {
-    let rows: [(&[u8], usize, Option<OptionsFault>); 4] = [
+    const ROWS: &[(&[u8], usize, Option<OptionsFault>)] = &[
         (b"NOLOG ", 8186, None),
         (
             b"NOLOG ",
@@ -150,10 +154,8 @@ fn bytes_of_a_line_at_their_limit(rt: HostRuntime) -> Result<(), Fail> {
             Some(OptionsFault::Line(TextFault::LineTooLong(2))),
         ),
     ];
-    for (front, letters, fault) in rows {
-        let file = lengthened(&rt, front, letters, b"\n")?;
-        assert!(rt; file.len() < 10_000);
-        assert_eq!(rt; fault_of(rt.alloc(), file.as_slice()), fault);
+    for &(front, letters, fault) in ROWS {
+        check_length(&rt, front, letters, b"\n", fault)?;
     }
     Ok(())
 }
@@ -161,7 +163,7 @@ fn bytes_of_a_line_at_their_limit(rt: HostRuntime) -> Result<(), Fail> {
 /// Names of 64 bytes are names, and those of 65 aren't.
 #[test]
 fn names_at_their_limit(rt: HostRuntime) -> Result<(), Fail> {
-    let rows: [(&[u8], &[u8]); 6] = [
+    const ROWS: &[(&[u8], &[u8])] = &[
         (b"GROUP ", b" ann"),
         (b"HOST_GROUP h h1 ", b""),
         (b"EXCLUDE ", b" USER ann"),
@@ -169,16 +171,10 @@ fn names_at_their_limit(rt: HostRuntime) -> Result<(), Fail> {
         (b"MAX 1 edit HOST ", b""),
         (b"LINGER ", b" 7"),
     ];
-    for (front, end) in rows {
-        let file = lengthened(&rt, front, 64, end)?;
-        assert!(rt; file.len() < 10_000);
-        assert_eq!(rt; fault_of(rt.alloc(), file.as_slice()), None);
-        let file = lengthened(&rt, front, 65, end)?;
-        assert!(rt; file.len() < 10_000);
-        assert_eq!(rt;
-            fault_of(rt.alloc(), file.as_slice()),
-            Some(OptionsFault::BadName(1))
-        );
+    const LONG: Option<OptionsFault> = Some(OptionsFault::BadName(1));
+    for (front, end) in ROWS {
+        check_length(&rt, front, 64, end, None)?;
+        check_length(&rt, front, 65, end, LONG)?;
     }
     Ok(())
 }
@@ -186,130 +182,137 @@ fn names_at_their_limit(rt: HostRuntime) -> Result<(), Fail> {
 /// 65,535 and 2^40 - 1 are numbers of a rule, and one more is none.
 #[test]
 fn numbers_at_their_limit(rt: HostRuntime) {
-    let bad = Some(OptionsFault::BadNumber(1));
-    let rows: [(&[u8], Option<OptionsFault>); 10] = [
+    const BAD: Option<OptionsFault> = Some(OptionsFault::BadNumber(1));
+    const ROWS: &[(&[u8], Option<OptionsFault>)] = &[
         (b"MAX 65535 edit USER ann", None),
-        (b"MAX 65536 edit USER ann", bad),
+        (b"MAX 65536 edit USER ann", BAD),
         (b"RESERVE 65535 edit USER ann", None),
-        (b"RESERVE 65536 edit USER ann", bad),
+        (b"RESERVE 65536 edit USER ann", BAD),
         (b"LINGER edit 1099511627775", None),
-        (b"LINGER edit 1099511627776", bad),
+        (b"LINGER edit 1099511627776", BAD),
         (b"TIMEOUT edit 1099511627775", None),
-        (b"TIMEOUT edit 1099511627776", bad),
+        (b"TIMEOUT edit 1099511627776", BAD),
         (b"TIMEOUTALL 1099511627775", None),
-        (b"TIMEOUTALL 1099511627776", bad),
+        (b"TIMEOUTALL 1099511627776", BAD),
     ];
-    for (file, fault) in rows {
+    for &(file, fault) in ROWS {
         assert!(rt; file.len() < 100);
         assert_eq!(rt; fault_of(rt.alloc(), file), fault);
     }
 }
 
-/// Sixteen lines of 4,092 members, and one of the rest.
+/// The options of a file.
+fn read(rt: &(impl Abort + AllocGlobal), file: &[u8]) -> Result<Options, Fail> {
+    assert!(rt; file.len() < 10_000);
+    Ok(read_options(rt.alloc(), file)?)
+}
+
+/// A rule line: its number, its feature or none for all, its rule, and of whom it speaks.
+type Told = (
+    u32,
+    Option<&'static [u8]>,
+    Rule,
+    Option<(WhoKind, &'static [u8])>,
+);
+
+fn is_feature(feature: &Option<Name>, told: &Option<&[u8]>) -> bool {
+    match (feature, told) {
+        (Some(name), Some(word)) => name.bytes() == *word,
+        (None, None) => true,
+        _ => false,
+    }
+}
+
+fn is_who(who: &Option<Who>, told: &Option<(WhoKind, &[u8])>) -> bool {
+    match (who, told) {
+        (Some(who), Some((kind, word))) => who.kind == *kind && who.name.bytes() == *word,
+        (None, None) => true,
+        _ => false,
+    }
+}
+
+/// A file of each kind of rule line, of a group and of a line that is only noted.
+const EACH_LINE: &[u8] = b"include edit user_group g:1 ignored \\\n\n\
+    EXCLUDEALL Display :0\nMax 00065535 edit Project p\nRESERVE 0 edit HOST h1\n\
+    LINGER edit 1099511627775\ntimeoutall 10\nTIMEOUT edit 7\nGROUP g:1 a:b c #d\nDebugLog x\n";
+
 #[test]
-fn members_at_their_limit(rt: HostRuntime) -> Result<(), Fail> {
-    let mut line = times(&rt, b" a", 4092)?;
-    line.extend_from_slice(b"\nGROUP g")?;
-    for (rest, fault) in [(64, None), (65, Some(OptionsFault::TooMany(17)))] {
-        let mut file = b"GROUP g".to_vec(rt.alloc())?;
-        let lines = times(&rt, line.as_slice(), 16)?;
-        file.extend_from_slice(lines.as_slice())?;
-        let last = times(&rt, b" b", rest)?;
-        file.extend_from_slice(last.as_slice())?;
-        assert!(rt; file.len() < 1 << 20);
-        assert_eq!(rt; fault_of(rt.alloc(), file.as_slice()), fault);
+fn what_lines_say(rt: HostRuntime) -> Result<(), Fail> {
+    const ROWS: &[Told] = &[
+        (
+            1,
+            Some(b"edit"),
+            Rule::Include,
+            Some((WhoKind::Group, b"g:1")),
+        ),
+        (3, None, Rule::Exclude, Some((WhoKind::Display, b":0"))),
+        (
+            4,
+            Some(b"edit"),
+            Rule::Max(65535),
+            Some((WhoKind::Project, b"p")),
+        ),
+        (
+            5,
+            Some(b"edit"),
+            Rule::Reserve(0),
+            Some((WhoKind::Host, b"h1")),
+        ),
+        (6, Some(b"edit"), Rule::Linger(1_099_511_627_775), None),
+        (7, None, Rule::Timeout(10), None),
+        (8, Some(b"edit"), Rule::Timeout(7), None),
+    ];
+    let options = read(&rt, EACH_LINE)?;
+    assert_eq!(rt; options.lines().len(), ROWS.len());
+    for (line, (number, feature, rule, who)) in options.lines().iter().zip(ROWS) {
+        assert_eq!(rt; line.line, *number);
+        assert!(rt; line.rule == *rule);
+        assert!(rt; is_feature(&line.feature, feature));
+        assert!(rt; is_who(&line.who, who));
     }
     Ok(())
 }
 
-fn who(kind: WhoKind, name: &[u8]) -> Result<Option<Who>, NameFault> {
-    let name = Name::read(name)?;
-    Ok(Some(Who { kind, name }))
-}
-
 #[test]
-fn what_lines_say(rt: HostRuntime) -> Result<(), Fail> {
-    let file = b"include edit user_group g:1 ignored \\\n\n\
-        EXCLUDEALL Display :0\nMax 00065535 edit Project p\nRESERVE 0 edit HOST h1\n\
-        LINGER edit 1099511627775\ntimeoutall 10\nTIMEOUT edit 7\nGROUP g:1 a:b c #d\nDebugLog x\n";
-    let edit = Some(Name::read(b"edit")?);
-    let options = read_options(rt.alloc(), file)?;
-    let wanted = [
-        RuleLine {
-            line: 1,
-            feature: edit,
-            rule: Rule::Include,
-            who: who(WhoKind::Group, b"g:1")?,
-        },
-        RuleLine {
-            line: 3,
-            feature: None,
-            rule: Rule::Exclude,
-            who: who(WhoKind::Display, b":0")?,
-        },
-        RuleLine {
-            line: 4,
-            feature: edit,
-            rule: Rule::Max(65535),
-            who: who(WhoKind::Project, b"p")?,
-        },
-        RuleLine {
-            line: 5,
-            feature: edit,
-            rule: Rule::Reserve(0),
-            who: who(WhoKind::Host, b"h1")?,
-        },
-        RuleLine {
-            line: 6,
-            feature: edit,
-            rule: Rule::Linger(1_099_511_627_775),
-            who: None,
-        },
-        RuleLine {
-            line: 7,
-            feature: None,
-            rule: Rule::Timeout(10),
-            who: None,
-        },
-        RuleLine {
-            line: 8,
-            feature: edit,
-            rule: Rule::Timeout(7),
-            who: None,
-        },
-    ];
-    assert!(rt; options.lines() == wanted.as_slice());
-    let members = [Name::read(b"a:b")?, Name::read(b"c")?, Name::read(b"#d")?];
+fn groups_and_notes_are_told(rt: HostRuntime) -> Result<(), Fail> {
+    const MEMBERS: &[&[u8]] = &[b"a:b", b"c", b"#d"];
+    const NOTES: &[Note] = &[Note {
+        line: 10,
+        kind: NoteKind::NotActed,
+    }];
+    let options = read(&rt, EACH_LINE)?;
     let groups = options.groups();
     assert_eq!(rt; groups.len(), 1);
     assert_eq!(rt; groups[0].line(), 9);
     assert!(rt; !groups[0].of_hosts());
-    assert!(rt; groups[0].members() == members.as_slice());
-    let notes = [Note {
-        line: 10,
-        kind: NoteKind::NotActed,
-    }];
-    assert!(rt; options.notes() == notes.as_slice());
+    assert_eq!(rt; groups[0].members().len(), MEMBERS.len());
+    for (member, word) in groups[0].members().iter().zip(MEMBERS) {
+        assert!(rt; member.bytes() == *word);
+    }
+    assert!(rt; options.notes() == NOTES);
     Ok(())
+}
+
+/// The canonical text of options.
+fn written(alloc: Global, options: &Options) -> Result<Vec<u8>, Fail> {
+    Ok(write_options(alloc, options)?)
 }
 
 /// A text, written canonically, and that text again.
 fn check_text(rt: &(impl Abort + AllocGlobal), file: &[u8], text: &[u8]) -> Result<(), Fail> {
-    assert!(rt; file.len() < 10_000);
-    let options = read_options(rt.alloc(), file)?;
-    let written = write_options(rt.alloc(), &options)?;
-    assert!(rt; written.as_slice() == text);
-    assert!(rt; written.len() < 10_000);
-    let again = read_options(rt.alloc(), written.as_slice())?;
+    let options = read(rt, file)?;
+    let once = written(rt.alloc(), &options)?;
+    assert!(rt; once.as_slice() == text);
+    let again = read(rt, once.as_slice())?;
     assert!(rt; again.lines() == options.lines());
-    let rewritten = write_options(rt.alloc(), &again)?;
-    assert!(rt; rewritten.as_slice() == text);
+    let twice = written(rt.alloc(), &again)?;
+    assert!(rt; twice.as_slice() == text);
     Ok(())
 }
 
 #[test]
 fn canonical_texts(rt: HostRuntime) -> Result<(), Fail> {
-    let rows: [(&[u8], &[u8]); 9] = [
+    const ROWS: &[(&[u8], &[u8])] = &[
         (b"", b""),
         (b"\n# none\n", b""),
         // Capitals, one space, no leading zeros, no ignored words.
@@ -338,7 +341,7 @@ fn canonical_texts(rt: HostRuntime) -> Result<(), Fail> {
             b"RESERVE 65535 f DISPLAY :0\nINCLUDEALL PROJECT p\n",
         ),
     ];
-    for (file, text) in rows {
+    for &(file, text) in ROWS {
         check_text(&rt, file, text)?;
     }
     Ok(())
@@ -374,7 +377,7 @@ fn check_read_back(rt: &(impl Abort + AllocGlobal), file: &[u8]) -> Result<(), F
     match read_options(rt.alloc(), file) {
         Err(_) => Ok(()),
         Ok(options) => {
-            let text = write_options(rt.alloc(), &options)?;
+            let text = written(rt.alloc(), &options)?;
             check_text(rt, file, text.as_slice())
         }
     }

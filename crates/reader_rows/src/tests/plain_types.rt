@@ -35,7 +35,7 @@ fn words_that_are_no_names(rt: HostRuntime) {
 
 #[test]
 fn words_that_are_versions(rt: HostRuntime) {
-    let rows: [(&[u8], u64); 9] = [
+    const ROWS: &[(&[u8], u64)] = &[
         (b"1.0", 1_000_000_000),
         (b"2", 2_000_000_000),
         (b"2.10", 2_100_000_000),
@@ -46,14 +46,14 @@ fn words_that_are_versions(rt: HostRuntime) {
         (b"9999999999", 9_999_999_999_000_000_000),
         (b"2024.1", 2_024_100_000_000),
     ];
-    for (word, key) in rows {
+    for &(word, key) in ROWS {
         assert_eq!(rt; Version::read(word), Some(Version { key }));
     }
 }
 
 #[test]
 fn words_that_are_no_versions(rt: HostRuntime) {
-    let rows: [&[u8]; 9] = [
+    const ROWS: &[&[u8]] = &[
         b"",
         b".",
         b"1.",
@@ -64,16 +64,21 @@ fn words_that_are_no_versions(rt: HostRuntime) {
         b"12345678901",
         b"1.000000000",
     ];
-    for word in rows {
+    for &word in ROWS {
         assert_eq!(rt; Version::read(word), None);
     }
 }
 
 #[test]
 fn names_are_compared_as_bytes(rt: HostRuntime) -> Result<(), Fail> {
-    assert!(rt; Name::read(b"ann")? == Name::read(b"ann")?);
-    assert!(rt; Name::read(b"ann")? != Name::read(b"Ann")?);
-    assert!(rt; Name::read(b"ann")? != Name::read(b"anna")?);
+    const ROWS: &[(&[u8], &[u8], bool)] = &[
+        (b"ann", b"ann", true),
+        (b"ann", b"Ann", false),
+        (b"ann", b"anna", false),
+    ];
+    for &(one, other, same) in ROWS {
+        assert_eq!(rt; Name::read(one)? == Name::read(other)?, same);
+    }
     Ok(())
 }
 

@@ -4,6 +4,7 @@ use options_machine::Kind;
 use script_text::{ScriptRefusal, read_script};
 use script_words::{ScriptFault, ScriptWord};
 use std::alloc::Global;
+use std::process::Abort;
 use std::test::Fail;
 
 /// A comment, a good line over two physical lines that end in CR LF, a line of nothing and a line of blanks.
@@ -34,11 +35,7 @@ fn fault_at(line: u32, fault: ScriptWord) -> Option<ScriptRefusal> {
 /// Each line's number, moment, party and kind, and whether it names a feature and a version.
 #[test]
 fn a_script_of_every_verb(rt: HostRuntime) -> Result<(), Fail> {
-    let file =
-        b"# every verb\r\n0 0 ann h1 d1 p1 CHECKOUT edit 1.0\r\n\t1099511627775  255 bob h2 :0 -  \\\n CHECKIN view\n\
-        007 007 cy h3 :0 - BEAT edit\n7 7 cy h3 :0 - LOOK edit\n7 7 cy h3 :0 - STATUS edit\n7 7 cy h3 :0 - QUIT edit\n\
-        8 7 cy h3 :0 - QUEUE edit 1.5\n8 7 cy h3 :0 - REREAD 4294967295\n9 7 cy h3 :0 - REREAD 01";
-    let rows = [
+    const ROWS: &[(u32, u64, u32, Kind, bool, bool)] = &[
         (2, 0, 0, Kind::Checkout, true, true),
         (3, (1 << 40) - 1, 255, Kind::Checkin, true, false),
         (5, 7, 7, Kind::Beat, true, false),
@@ -49,9 +46,13 @@ fn a_script_of_every_verb(rt: HostRuntime) -> Result<(), Fail> {
         (10, 8, 7, Kind::Reread(u32::MAX), false, false),
         (11, 9, 7, Kind::Reread(1), false, false),
     ];
+    let file =
+        b"# every verb\r\n0 0 ann h1 d1 p1 CHECKOUT edit 1.0\r\n\t1099511627775  255 bob h2 :0 -  \\\n CHECKIN view\n\
+        007 007 cy h3 :0 - BEAT edit\n7 7 cy h3 :0 - LOOK edit\n7 7 cy h3 :0 - STATUS edit\n7 7 cy h3 :0 - QUIT edit\n\
+        8 7 cy h3 :0 - QUEUE edit 1.5\n8 7 cy h3 :0 - REREAD 4294967295\n9 7 cy h3 :0 - REREAD 01";
     let script = read_script(rt.alloc(), file)?;
     assert_eq!(rt; script.len(), 9);
-    for (found, (line, moment, party, kind, feature, version)) in script.iter().zip(rows) {
+    for (found, &(line, moment, party, kind, feature, version)) in script.iter().zip(ROWS) {
         assert_eq!(rt; found.line(), line);
         assert_eq!(rt; found.moment(), moment);
         assert_eq!(rt; found.party(), party);
@@ -89,7 +90,7 @@ fn the_client_the_feature_and_the_version(rt: HostRuntime) -> Result<(), Fail> {
 /// Each fault once, at line 1 and at line 6.
 #[test]
 fn script_faults(rt: HostRuntime) -> Result<(), Fail> {
-    let rows: [(&[u8], ScriptWord); 28] = [
+    const ROWS: &[(&[u8], ScriptWord)] = &[
         (b"0\n", ScriptWord::WordCount),
         (b"0 0 ann h1 d1 p1 LOOK\n", ScriptWord::WordCount),
         (b"-1 0 ann h1 d1 p1 LOOK edit\n", ScriptWord::BadNumber),
@@ -146,7 +147,7 @@ fn script_faults(rt: HostRuntime) -> Result<(), Fail> {
             ScriptWord::BadVersion,
         ),
     ];
-    for (text, fault) in rows {
+    for &(text, fault) in ROWS {
         let (alone, behind) = refusals(rt.alloc(), text)?;
         assert_eq!(rt; alone, fault_at(1, fault));
         assert_eq!(rt; behind, fault_at(6, fault));
@@ -157,7 +158,7 @@ fn script_faults(rt: HostRuntime) -> Result<(), Fail> {
 /// Two faults in one line, and then in two lines: the first decides.
 #[test]
 fn the_first_fault_decides(rt: HostRuntime) -> Result<(), Fail> {
-    let rows: [(&[u8], ScriptWord); 15] = [
+    const ROWS: &[(&[u8], ScriptWord)] = &[
         (b"x 0 ann h1 d1 p1 LOOK\n", ScriptWord::WordCount),
         (b"x 0 \x7f h1 d1 p1 LOOK edit\n", ScriptWord::BadNumber),
         (b"0 256 ann h1 d1 p1 look edit\n", ScriptWord::BadNumber),
@@ -180,7 +181,7 @@ fn the_first_fault_decides(rt: HostRuntime) -> Result<(), Fail> {
         (b"0 0 ann h1 d1 p1 look edit\n0\n", ScriptWord::UnknownWord),
         (b"0\n0 0 ann h1 d1 p1 LOOK edit \\", ScriptWord::WordCount),
     ];
-    for (text, fault) in rows {
+    for &(text, fault) in ROWS {
         let (alone, behind) = refusals(rt.alloc(), text)?;
         assert_eq!(rt; alone, fault_at(1, fault));
         assert_eq!(rt; behind, fault_at(6, fault));
@@ -188,17 +189,33 @@ fn the_first_fault_decides(rt: HostRuntime) -> Result<(), Fail> {
     Ok(())
 }
 
+/// The text is refused with these faults of the text, alone and behind the good lines.
+fn check_text_fault(
+    rt: &(impl Abort + AllocGlobal),
+    text: &[u8],
+    alone: TextFault,
+    behind: TextFault,
+) -> Result<(), Fail> {
+    let refused = refusals(rt.alloc(), text)?;
+    assert_eq!(rt; refused.0, fault_at(1, ScriptWord::Text(alone)));
+    assert_eq!(rt; refused.1, fault_at(6, ScriptWord::Text(behind)));
+    Ok(())
+}
+
 /// They come before the other faults of their line.
 #[test]
 fn faults_of_the_text(rt: HostRuntime) -> Result<(), Fail> {
-    let (alone, behind) = refusals(rt.alloc(), b"0 x \\\n")?;
-    let open = |line| fault_at(line, ScriptWord::Text(TextFault::OpenContinuation(line)));
-    assert_eq!(rt; alone, open(1));
-    assert_eq!(rt; behind, open(6));
+    check_text_fault(
+        &rt,
+        b"0 x \\\n",
+        TextFault::OpenContinuation(1),
+        TextFault::OpenContinuation(6),
+    )?;
     let long = vec![in rt.alloc(); b'x'; 8193]?;
-    let (alone, behind) = refusals(rt.alloc(), long.as_slice())?;
-    let too_long = |line| fault_at(line, ScriptWord::Text(TextFault::LineTooLong(line)));
-    assert_eq!(rt; alone, too_long(1));
-    assert_eq!(rt; behind, too_long(6));
-    Ok(())
+    check_text_fault(
+        &rt,
+        long.as_slice(),
+        TextFault::LineTooLong(1),
+        TextFault::LineTooLong(6),
+    )
 }

@@ -40,7 +40,7 @@ fn render_fault(alloc: Global, text: &mut Vec<u8>, fault: TextFault) -> Result<(
 
 #[test]
 fn lines_and_words(rt: HostRuntime) -> Result<(), Fail> {
-    let cases: [(&[u8], &[u8]); 28] = [
+    const CASES: &[(&[u8], &[u8])] = &[
         // An empty file, and lines without words.
         (b"", b""),
         (b"\n\n", b""),
@@ -76,7 +76,7 @@ fn lines_and_words(rt: HostRuntime) -> Result<(), Fail> {
         (b"\n\\", b"open 2"),
         (b"a\n \\\n\\\n", b"1:a,;open 2"),
     ];
-    for (file, wanted) in cases {
+    for &(file, wanted) in CASES {
         assert!(rt; file.len() < 100);
         let text = rendered(rt.alloc(), file)?;
         assert_eq!(rt; text.as_slice(), wanted, "of {file:?}");
@@ -113,7 +113,7 @@ fn outline(alloc: Global, file: &[u8]) -> Result<Vec<u8>, Fail>
 
 #[test]
 fn limit_of_a_line(rt: HostRuntime) -> Result<(), Fail> {
-    let cases: [(&[(u8, usize)], &[u8]); 16] = [
+    const CASES: &[(&[(u8, usize)], &[u8])] = &[
         (&[(b'a', 8192)], b"1;"),
         (&[(b'a', 8193)], b"too long 1"),
         // CR and LF don't count.
@@ -170,7 +170,7 @@ fn limit_of_a_line(rt: HostRuntime) -> Result<(), Fail> {
             b"too long 1",
         ),
     ];
-    for (runs, wanted) in cases {
+    for &(runs, wanted) in CASES {
         let file = text_of(rt.alloc(), runs)?;
         assert!(rt; file.len() < 20_000);
         let text = outline(rt.alloc(), file.as_slice())?;
@@ -181,7 +181,7 @@ fn limit_of_a_line(rt: HostRuntime) -> Result<(), Fail> {
 
 #[test]
 fn numbers(rt: HostRuntime) {
-    let cases: [(&[u8], Option<u64>); 13] = [
+    const CASES: &[(&[u8], Option<u64>)] = &[
         (b"", None),
         (b"0", Some(0)),
         (b"7", Some(7)),
@@ -199,7 +199,7 @@ fn numbers(rt: HostRuntime) {
         (b"1 ", None),
         (b"1a", None),
     ];
-    for (word, value) in cases {
+    for &(word, value) in CASES {
         assert_eq!(rt; number(word), value, "of {word:?}");
     }
 }

@@ -30,7 +30,7 @@ const ANN: Client<'static> = Client {
 /// on.
 #[test]
 fn a_seat_is_waited_for_and_kept_by_the_clock(rt: HostRuntime) -> Result<(), Fail> {
-    let heard = [
+    const HEARD: &[&str] = &[
         "WELCOME 3",
         "QUEUED 2 #4",
         "~",
@@ -42,12 +42,12 @@ fn a_seat_is_waited_for_and_kept_by_the_clock(rt: HostRuntime) -> Result<(), Fai
         "BEATEN #8",
         "RETURNED #9",
     ];
-    let moments = [100, 109, 110, 119, 120, 120, 121, 139, 140];
-    let answers = [false, false, false, false, false, false, false, true];
+    const MOMENTS: &[u64] = &[100, 109, 110, 119, 120, 120, 121, 139, 140];
+    const ANSWERS: &[bool] = &[false, false, false, false, false, false, false, true];
     let talk = Talk::make(rt.alloc(), 64, 512)?;
-    let mut link = MemLink::make(feeds(rt.alloc(), &heard)?, Vec::new(rt.alloc()), talk);
-    let mut clock = MemClock::make(moments.to_vec(rt.alloc())?);
-    let mut bell = MemBell::make(answers.to_vec(rt.alloc())?);
+    let mut link = MemLink::make(feeds(rt.alloc(), HEARD)?, Vec::new(rt.alloc()), talk);
+    let mut clock = MemClock::make(MOMENTS.to_vec(rt.alloc())?);
+    let mut bell = MemBell::make(ANSWERS.to_vec(rt.alloc())?);
     let mut out = MemSink::make(rt.alloc(), 256, Vec::new(rt.alloc()))?;
     let pace = Pace {
         holding: 20,
@@ -79,7 +79,7 @@ fn a_seat_is_waited_for_and_kept_by_the_clock(rt: HostRuntime) -> Result<(), Fai
 
 #[test]
 fn the_line_of_any_numbers_is_read_and_no_other(rt: HostRuntime) {
-    let rows: [(&[u8], Option<(u64, u32)>); 6] = [
+    const ROWS: &[(&[u8], Option<(u64, u32)>)] = &[
         (
             b"GLANCE FRONT 0 HELD 0 LINGERING 0 OPEN 0 OF 0 QUEUED 0",
             Some((0, 0)),
@@ -105,7 +105,7 @@ fn the_line_of_any_numbers_is_read_and_no_other(rt: HostRuntime) {
             None,
         ),
     ];
-    for (line, wanted) in rows {
+    for &(line, wanted) in ROWS {
         let read = read_glance(line).map(|glance| (glance.front, glance.queued));
         assert_eq!(&rt; read, wanted);
     }

@@ -3,6 +3,7 @@ use counter::Glance;
 use lic_types::{Client, Day, Name, Version};
 use line_protocol::{Fed, Feeder, Told, Wire, read_request, write_reply};
 use options_machine::{Charge, Reply};
+use std::process::Abort;
 use std::test::Fail;
 
 /// The number of the fault of a line, or 0 where it is a request.
@@ -15,7 +16,7 @@ fn fault_number(line: &[u8]) -> u8 {
 
 #[test]
 fn each_wrong_form_of_each_request_has_its_number(rt: HostRuntime) {
-    let rows: [(&[u8], u8); 67] = [
+    const ROWS: &[(&[u8], u8)] = &[
         (b"HELLO ann h1 d1", 3),
         (b"HELLO ann h1 d1 p1 more", 3),
         (b"hello ann h1 d1 p1", 2),
@@ -108,7 +109,7 @@ fn each_wrong_form_of_each_request_has_its_number(rt: HostRuntime) {
         (b"  ", 1),
         (b"JUMP", 2),
     ];
-    for (line, number) in &rows {
+    for (line, number) in ROWS {
         assert_eq!(&rt; fault_number(line), *number);
     }
 }
@@ -116,6 +117,11 @@ fn each_wrong_form_of_each_request_has_its_number(rt: HostRuntime) {
 /// The name of this text.
 fn name(text: &[u8]) -> Result<Name, Fail> {
     Ok(Name::read(text)?)
+}
+
+/// The line is read as this request.
+fn reads(rt: &impl Abort, line: &[u8], wire: Wire) {
+    assert!(rt; read_request(line) == Ok(wire));
 }
 
 #[test]
@@ -128,22 +134,17 @@ fn requests_are_read(rt: HostRuntime) -> Result<(), Fail> {
     };
     let edit = name(b"edit")?;
     let version = Version { key: 1_000_000_000 };
-    let rows: [(&[u8], Wire); 11] = [
-        (b"HELLO ann h1 d1 p1", Wire::Hello(client)),
-        (b"CHECKOUT edit 1.0", Wire::Checkout(edit, version)),
-        (b" QUEUE  edit 1 ", Wire::Queue(edit, version)),
-        (b"CHECKIN edit", Wire::Checkin(edit)),
-        (b"BEAT edit", Wire::Beat(edit)),
-        (b"LOOK edit", Wire::Look(edit)),
-        (b"STATUS edit", Wire::Status(edit)),
-        (b"GLANCE edit", Wire::Glance(edit)),
-        (b"REREAD 4294967295", Wire::Reread(4_294_967_295)),
-        (b"QUIT", Wire::Quit),
-        (b"SHUTDOWN", Wire::Shutdown),
-    ];
-    for (line, wire) in &rows {
-        assert!(&rt; read_request(line) == Ok(*wire));
-    }
+    reads(&rt, b"HELLO ann h1 d1 p1", Wire::Hello(client));
+    reads(&rt, b"CHECKOUT edit 1.0", Wire::Checkout(edit, version));
+    reads(&rt, b" QUEUE  edit 1 ", Wire::Queue(edit, version));
+    reads(&rt, b"CHECKIN edit", Wire::Checkin(edit));
+    reads(&rt, b"BEAT edit", Wire::Beat(edit));
+    reads(&rt, b"LOOK edit", Wire::Look(edit));
+    reads(&rt, b"STATUS edit", Wire::Status(edit));
+    reads(&rt, b"GLANCE edit", Wire::Glance(edit));
+    reads(&rt, b"REREAD 4294967295", Wire::Reread(4_294_967_295));
+    reads(&rt, b"QUIT", Wire::Quit);
+    reads(&rt, b"SHUTDOWN", Wire::Shutdown);
     Ok(())
 }
 
@@ -154,6 +155,22 @@ fn desk(reply: Reply, seat: Option<u32>) -> Told {
         seat,
         place: 7,
     }
+}
+
+/// What is told is written so.
+fn writes(rt: &impl Abort, told: &Told, line: &[u8]) {
+    let mut room = [0u8; 160];
+    let end = write_reply(told, &mut room);
+    assert_eq!(rt; room[..end], *line);
+}
+
+#[test]
+fn what_a_desk_tells_is_written(rt: HostRuntime) {
+    let granted = desk(Reply::Granted(Charge::Open), Some(0));
+    writes(&rt, &granted, b"GRANTED SEAT 0 OPEN #7\n");
+    let retaken = desk(Reply::Retaken(Charge::Reserve(12)), Some(1));
+    writes(&rt, &retaken, b"RETAKEN SEAT 1 RESERVE 12 #7\n");
+    writes(&rt, &desk(Reply::NotHeld, None), b"NOTHELD #7\n");
 }
 
 #[test]
@@ -172,36 +189,18 @@ fn lines_are_written(rt: HostRuntime) {
         free: 2,
         queued: 3,
     };
-    let rows: [(Told, &[u8]); 14] = [
-        (
-            desk(Reply::Granted(Charge::Open), Some(0)),
-            b"GRANTED SEAT 0 OPEN #7\n",
-        ),
-        (
-            desk(Reply::Retaken(Charge::Reserve(12)), Some(1)),
-            b"RETAKEN SEAT 1 RESERVE 12 #7\n",
-        ),
-        (desk(Reply::NotHeld, None), b"NOTHELD #7\n"),
-        (Told::Welcome(0), b"WELCOME 0\n"),
-        (Told::NoHello, b"NOHELLO\n"),
-        (Told::Greeted, b"GREETED\n"),
-        (Told::Unknown, b"UNKNOWN\n"),
-        (Told::Expired(day), b"EXPIRED 31-jan-2027\n"),
-        (
-            Told::Glance(glance),
-            b"GLANCE FRONT 1 HELD 1 LINGERING 0 OPEN 1 OF 2 QUEUED 3\n",
-        ),
-        (Told::Reread(1), b"REREAD 1\n"),
-        (Told::NoRules(2), b"NORULES 2\n"),
-        (Told::Bad(7), b"BAD 7\n"),
-        (Told::Bye, b"BYE\n"),
-        (Told::Stopping, b"STOPPING\n"),
-    ];
-    for (told, line) in &rows {
-        let mut room = [0u8; 160];
-        let end = write_reply(told, &mut room);
-        assert_eq!(&rt; room[..end], **line);
-    }
+    let text = b"GLANCE FRONT 1 HELD 1 LINGERING 0 OPEN 1 OF 2 QUEUED 3\n";
+    writes(&rt, &Told::Welcome(0), b"WELCOME 0\n");
+    writes(&rt, &Told::NoHello, b"NOHELLO\n");
+    writes(&rt, &Told::Greeted, b"GREETED\n");
+    writes(&rt, &Told::Unknown, b"UNKNOWN\n");
+    writes(&rt, &Told::Expired(day), b"EXPIRED 31-jan-2027\n");
+    writes(&rt, &Told::Glance(glance), text);
+    writes(&rt, &Told::Reread(1), b"REREAD 1\n");
+    writes(&rt, &Told::NoRules(2), b"NORULES 2\n");
+    writes(&rt, &Told::Bad(7), b"BAD 7\n");
+    writes(&rt, &Told::Bye, b"BYE\n");
+    writes(&rt, &Told::Stopping, b"STOPPING\n");
 }
 
 #[test]

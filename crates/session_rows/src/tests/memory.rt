@@ -7,6 +7,15 @@ use std::test::Fail;
 
 #[test]
 fn a_link_in_memory_feeds_pieces_fails_and_tells_its_talk(rt: HostRuntime) -> Result<(), Fail> {
+    const MARKS: &[Mark] = &[
+        Mark::Heard(3),
+        Mark::Heard(2),
+        Mark::Wrote(4),
+        Mark::WriteFault(2),
+        Mark::Silence,
+        Mark::ReadFault,
+        Mark::Ended,
+    ];
     let mut feeds = Vec::new(rt.alloc());
     feeds.push(Feed::Piece(Vec::from_slice(rt.alloc(), b"QUIT\n")?))?;
     feeds.push(Feed::Quiet)?;
@@ -22,16 +31,7 @@ fn a_link_in_memory_feeds_pieces_fails_and_tells_its_talk(rt: HostRuntime) -> Re
     assert!(&rt; link.read(&mut room) == Got::Failed);
     assert!(&rt; link.read(&mut room) == Got::End);
     assert_eq!(&rt; (link.faults, link.quiets), (2, 1));
-    let marks = [
-        Mark::Heard(3),
-        Mark::Heard(2),
-        Mark::Wrote(4),
-        Mark::WriteFault(2),
-        Mark::Silence,
-        Mark::ReadFault,
-        Mark::Ended,
-    ];
-    assert!(&rt; link.talk.marks.as_slice() == marks.as_slice());
+    assert!(&rt; link.talk.marks.as_slice() == MARKS);
     assert!(&rt; link.talk.bytes.as_slice() == b"QUIT\nBYE\nBY".as_slice());
     Ok(())
 }

@@ -1,22 +1,40 @@
 //! The words of each reply.
 use options_machine::{Charge, Reply};
 use reply_words::reply_words;
-use std::process::Abort;
 
-fn counts(own: bool, queued: bool) -> Reply {
-    Reply::Counts {
-        held: 1,
-        lingering: 20,
-        taken: 300,
-        free: 4000,
-        own,
-        queued,
-    }
-}
+/// The numbers of a pool, for a party that neither has a seat nor waits.
+const COUNTS: Reply = Reply::Counts {
+    held: 1,
+    lingering: 20,
+    taken: 300,
+    free: 4000,
+    own: false,
+    queued: false,
+};
+
+/// The same for a party that has a seat.
+const OWN: Reply = Reply::Counts {
+    held: 1,
+    lingering: 20,
+    taken: 300,
+    free: 4000,
+    own: true,
+    queued: false,
+};
+
+/// The same for a party that waits.
+const QUEUED: Reply = Reply::Counts {
+    held: 1,
+    lingering: 20,
+    taken: 300,
+    free: 4000,
+    own: false,
+    queued: true,
+};
 
 #[test]
 fn each_reply_has_its_words(rt: HostRuntime) {
-    let rows: [(Reply, &[u8]); 18] = [
+    const ROWS: &[(Reply, &[u8])] = &[
         (Reply::Granted(Charge::Open), b"GRANTED OPEN"),
         (Reply::Granted(Charge::Reserve(7)), b"GRANTED RESERVE 7"),
         (Reply::Retaken(Charge::Open), b"RETAKEN OPEN"),
@@ -32,23 +50,14 @@ fn each_reply_has_its_words(rt: HostRuntime) {
         (Reply::NotHeld, b"NOTHELD"),
         (Reply::Beaten, b"BEATEN"),
         (Reply::Held, b"HELD"),
-        (
-            counts(true, false),
-            b"COUNTS HELD 1 LINGERING 20 OPEN 300 OF 4000 OWN 1",
-        ),
-        (
-            counts(false, true),
-            b"COUNTS HELD 1 LINGERING 20 OPEN 300 OF 4000 OWN 2",
-        ),
-        (
-            counts(false, false),
-            b"COUNTS HELD 1 LINGERING 20 OPEN 300 OF 4000 OWN 0",
-        ),
+        (OWN, b"COUNTS HELD 1 LINGERING 20 OPEN 300 OF 4000 OWN 1"),
+        (QUEUED, b"COUNTS HELD 1 LINGERING 20 OPEN 300 OF 4000 OWN 2"),
+        (COUNTS, b"COUNTS HELD 1 LINGERING 20 OPEN 300 OF 4000 OWN 0"),
         (Reply::Queued(1), b"QUEUED 1"),
         (Reply::Unqueued, b"UNQUEUED"),
         (Reply::Reread(1), b"REREAD 1"),
     ];
-    for (reply, words) in &rows {
+    for (reply, words) in ROWS {
         let mut room = [0u8; 160];
         let end = reply_words(reply, &mut room);
         assert_eq!(&rt; room[..end], **words);

@@ -1,4 +1,4 @@
-use licence_tool::{Status, Words, tool};
+use licence_tool::{Words, tool};
 use outside::{MemFile, MemFiles, MemSink};
 use std::alloc::{AllocError, Global};
 use std::io;
@@ -6,41 +6,107 @@ use std::io::ErrorKind;
 use std::process::Abort;
 use std::test::Fail;
 
-mod audit;
-mod faults;
-mod limits;
-mod rows;
-mod site;
-mod trials;
-mod usage;
-
 /// A file by its name, and what it holds.
 type Held<'a> = (&'a str, &'a [u8]);
 
-/// What a command came to: what it wrote to standard output and to standard error, and its status.
-#[derive(Drop)]
-struct Ended {
-    out: Vec<u8>,
-    err: Vec<u8>,
-    status: Status,
+/// A command, and how it is to end.
+#[derive(Clone, Copy)]
+struct Row<'a> {
+    words: &'a [&'a str],
+    held: &'a [Held<'a>],
+    /// The reads and the writes that fail, by their numbers from 0.
+    reads: &'a [u64],
+    writes: &'a [u64],
+    /// How many bytes standard error takes.
+    room: usize,
+    /// The status, and what is written to standard output and to standard error.
+    code: u8,
+    out: &'a [u8],
+    err: &'a [u8],
 }
 
-/// The words `check licence options`.
-const CHECK: [&str; 3] = ["check", "licence", "options"];
-
-/// The words `replay licence options script`.
-const REPLAY: [&str; 4] = ["replay", "licence", "options", "script"];
-
-/// The words `report licence options script`.
-const REPORT: [&str; 4] = ["report", "licence", "options", "script"];
-
-/// A replay with three further options files.
-const REPLAY_MORE: [&str; 7] = [
-    "replay", "licence", "options", "script", "more1", "more2", "more3",
+/// A licence of one pool with two licences, an options file of one line, a script of three lines, a log that is a
+/// run, and one that is none.
+const HELD: [Held<'static>; 5] = [
+    ("licence", b"FEATURE edit acme 2.0 permanent 2 SIGN=00AB\n"),
+    ("options", b"LINGER edit 60\n"),
+    (
+        "script",
+        b"100 0 ann h1 d1 p1 CHECKOUT edit 1.0\n100 1 bob h2 d2 p2 CHECKOUT edit 1.0\n\
+        100 1 bob h2 d2 p2 CHECKIN edit\n",
+    ),
+    (
+        "log",
+        b"ENTRY 0 #0 0 0 ann h1 d1 p1 CHECKOUT GRANTED OPEN\n",
+    ),
+    (
+        "denying",
+        b"ENTRY 0 #0 0 0 ann h1 d1 p1 CHECKOUT GRANTED OPEN\n\
+        ENTRY 0 #1 0 1 bob h2 d2 p2 CHECKOUT NOSEAT TAKEN 2 OF 2\n",
+    ),
 ];
 
-/// A licence of one pool with two licences.
-const TWO: &[u8] = b"FEATURE edit acme 2.0 permanent 2 SIGN=00AB\n";
+/// A command that ends well and writes nothing, where nothing fails.
+const PLAIN: Row<'static> = Row {
+    words: &[],
+    held: &HELD,
+    reads: &[],
+    writes: &[],
+    room: 4096,
+    code: 0,
+    out: b"",
+    err: b"",
+};
+
+const CHECK: Row<'static> = Row {
+    words: &["check", "licence", "options"],
+    out: b"POOL 0 edit 2.0 COUNT 2 EXPIRES never\nOPTIONS\nLINGER edit 60\n",
+    ..PLAIN
+};
+
+const REPLAY: Row<'static> = Row {
+    words: &["replay", "licence", "options", "script"],
+    out: b"GRANTED OPEN #0\nGRANTED OPEN #1\nLINGERING UNTIL 160 #2\n",
+    ..PLAIN
+};
+
+const REPORT: Row<'static> = Row {
+    words: &["report", "licence", "options", "script"],
+    out: b"POOL 0 edit 2.0 HELD 1 LINGERING 1 OPEN 2 OF 2\nHELD 0 ann h1 d1 p1 OPEN BEAT 100\n\
+        LINGERING bob h2 d2 p2 OPEN UNTIL 160\n",
+    ..PLAIN
+};
+
+const AUDIT: Row<'static> = Row {
+    words: &["audit", "licence", "options", "log"],
+    out: b"YES ENTRIES 1\nUSER ann GRANTS 1\n",
+    ..PLAIN
+};
+
+const USAGE: Row<'static> = Row {
+    words: &["usage", "licence", "options", "log"],
+    out: b"USAGE 0 edit 2.0\nDAY 1-jan-1970 PEAK 1 SECONDS 0 DENIED 0 NOSEAT 0 GRANTS 1\n",
+    ..PLAIN
+};
+
+/// Event 0 is a checkout of party 0 at 0, event 2 one of party 3 at 20, and event 4 one of party 7, whose user is
+/// excluded. The others are requests of parties that have nothing.
+const TRIAL: Row<'static> = Row {
+    words: &["trial-replay", "8"],
+    held: &[],
+    out: b"EVENTS 8\nGRANTED 2\nRETAKEN 0\nDENIED 1\nNOSEAT 0\nALREADYHELD 0\nRETURNED 0\nLINGERING 0\n\
+        NOTHELD 5\nBEATEN 0\nHELD 0\n",
+    ..PLAIN
+};
+
+/// An audit of a log that is no run.
+const AUDIT_DENYING: Row<'static> = Row {
+    words: &["audit", "licence", "options", "denying"],
+    code: 11,
+    out: b"NO LINE 2 EXPECTED #1 0 GRANTED OPEN\n",
+    err: b"log: not a run\n",
+    ..PLAIN
+};
 
 fn words_of(alloc: Global, words: &[&str]) -> Result<Words, AllocError> {
     let mut made = Vec::new(alloc);
@@ -62,56 +128,42 @@ fn files_of(alloc: Global, held: &[Held<'_>], failing: &[u64]) -> Result<MemFile
     Ok(MemFiles::make(alloc, files, failing))
 }
 
-/// Runs a command on these files; the reads and the writes of these numbers, counted from 0, fail.
-fn run_failing(
-    alloc: Global,
-    words: &[&str],
-    held: &[Held<'_>],
-    reads: &[u64],
-    writes: &[u64],
-) -> Result<Ended, AllocError> {
-    let words = words_of(alloc, words)?;
-    let mut files = files_of(alloc, held, reads)?;
-    let mut out = MemSink::make(alloc, 262_144, Vec::from_slice(alloc, writes)?)?;
-    let mut err = MemSink::make(alloc, 4096, Vec::new(alloc))?;
-    let status = tool(alloc, &words, &mut files, &mut out, &mut err);
-    Ok(Ended {
-        out: out.bytes,
-        err: err.bytes,
-        status,
-    })
+/// A sink with room for so many bytes, of which the writes of these numbers fail.
+fn sink(alloc: Global, room: usize, failing: &[u64]) -> Result<MemSink, AllocError> {
+    MemSink::make(alloc, room, Vec::from_slice(alloc, failing)?)
 }
 
-fn run(alloc: Global, words: &[&str], held: &[Held<'_>]) -> Result<Ended, AllocError> {
-    run_failing(alloc, words, held, &[], &[])
+/// Runs the command of these words, and compares how it ends.
+fn run_words(rt: &(impl Abort + AllocGlobal), words: &Words, row: &Row<'_>) -> Result<(), Fail> {
+    let mut files = files_of(rt.alloc(), row.held, row.reads)?;
+    let mut out = sink(rt.alloc(), 4096, row.writes)?;
+    let mut err = sink(rt.alloc(), row.room, &[])?;
+    let status = tool(rt.alloc(), words, &mut files, &mut out, &mut err);
+    assert_eq!(rt; status.code(), row.code);
+    assert!(rt; out.bytes.as_slice() == row.out);
+    assert!(rt; err.bytes.as_slice() == row.err);
+    Ok(())
 }
 
-/// A command that is to end so.
-fn expect(rt: &impl Abort, ended: &Ended, code: u8, out: &[u8], err: &[u8]) {
-    assert_eq!(rt; ended.status.code(), code);
-    assert!(rt; ended.out.as_slice() == out);
-    assert!(rt; ended.err.as_slice() == err);
+/// Runs a command, and compares how it ends.
+fn run(rt: &(impl Abort + AllocGlobal), row: &Row<'_>) -> Result<(), Fail> {
+    let words = words_of(rt.alloc(), row.words)?;
+    run_words(rt, &words, row)
 }
 
-/// A check of these files that is to end so.
-fn expect_check(
-    rt: &(impl Abort + AllocGlobal),
-    licence: &[u8],
-    options: &[u8],
-    code: u8,
-    err: &[u8],
-) -> Result<(), Fail> {
-    let held = [("licence", licence), ("options", options)];
-    let ended = run(rt.alloc(), &CHECK, &held)?;
-    assert_eq!(rt; ended.status.code(), code);
-    assert!(rt; ended.err.as_slice() == err);
-    assert_eq!(rt; ended.out.is_empty(), code != 0);
+/// Each command once, on good files and on a log that is no run.
+#[test]
+fn each_command_writes_its_text(rt: HostRuntime) -> Result<(), Fail> {
+    const ROWS: &[Row<'static>] = &[CHECK, REPLAY, REPORT, AUDIT, USAGE, TRIAL, AUDIT_DENYING];
+    for row in ROWS {
+        run(&rt, row)?;
+    }
     Ok(())
 }
 
 #[test]
 fn words_that_are_no_command(rt: HostRuntime) -> Result<(), Fail> {
-    let rows: [&[&str]; 28] = [
+    const ROWS: &[&[&str]] = &[
         &[],
         &["check"],
         &["check", "licence"],
@@ -141,42 +193,54 @@ fn words_that_are_no_command(rt: HostRuntime) -> Result<(), Fail> {
         &["trial-replay", "eight"],
         &["trial-replay", "8", "8"],
     ];
-    let held = [("licence", TWO), ("options", b""), ("script", b"")];
-    for words in rows {
-        let ended = run(rt.alloc(), words, &held)?;
-        expect(&rt, &ended, 2, b"", b"usage\n");
+    for &words in ROWS {
+        let row = Row {
+            words,
+            code: 2,
+            err: b"usage\n",
+            ..PLAIN
+        };
+        run(&rt, &row)?;
     }
     Ok(())
+}
+
+/// Words that aren't there, as the reason for which they could not be read has it.
+fn run_unread(
+    rt: &(impl Abort + AllocGlobal),
+    reason: ErrorKind,
+    row: &Row<'_>,
+) -> Result<(), Fail> {
+    let words = licence_tool::words_of(rt.alloc(), Err(io::Error::from(reason)));
+    run_words(rt, &words, row)
 }
 
 #[test]
 fn words_that_could_not_be_read(rt: HostRuntime) -> Result<(), Fail> {
-    let rows: [(ErrorKind, u8, &[u8]); 2] = [
-        (ErrorKind::InvalidData, 2, b"usage\n"),
-        (ErrorKind::OutOfMemory, 8, b"no memory\n"),
-    ];
-    for (kind, code, line) in rows {
-        let words = licence_tool::words_of(rt.alloc(), Err(io::Error::from(kind)));
-        let mut files = files_of(rt.alloc(), &[], &[])?;
-        let mut out = MemSink::make(rt.alloc(), 16, Vec::new(rt.alloc()))?;
-        let mut err = MemSink::make(rt.alloc(), 16, Vec::new(rt.alloc()))?;
-        let status = tool(rt.alloc(), &words, &mut files, &mut out, &mut err);
-        assert_eq!(rt; status.code(), code);
-        assert!(rt; err.bytes.as_slice() == line);
-    }
-    Ok(())
+    const USAGE_ERROR: Row<'static> = Row {
+        code: 2,
+        err: b"usage\n",
+        ..PLAIN
+    };
+    const NO_MEMORY: Row<'static> = Row {
+        code: 8,
+        err: b"no memory\n",
+        ..PLAIN
+    };
+    run_unread(&rt, ErrorKind::InvalidData, &USAGE_ERROR)?;
+    run_unread(&rt, ErrorKind::OutOfMemory, &NO_MEMORY)
 }
 
+/// The status is still that of words that are no command.
 #[test]
 fn a_fault_of_standard_error_changes_no_status(rt: HostRuntime) -> Result<(), Fail> {
-    let words = words_of(rt.alloc(), &["replay", "a", "b"])?;
-    let mut files = files_of(rt.alloc(), &[], &[])?;
-    let mut out = MemSink::make(rt.alloc(), 16, Vec::new(rt.alloc()))?;
-    let mut err = MemSink::make(rt.alloc(), 3, Vec::new(rt.alloc()))?;
-    let status = tool(rt.alloc(), &words, &mut files, &mut out, &mut err);
-    assert_eq!(rt; status, Status::Usage);
-    assert_eq!(rt; err.bytes.len(), 0);
-    Ok(())
+    const UNTOLD: Row<'static> = Row {
+        words: &["replay", "a", "b"],
+        room: 3,
+        code: 2,
+        ..PLAIN
+    };
+    run(&rt, &UNTOLD)
 }
 
 /// What the line of a file says where the file of this number, from 0, isn't read.
@@ -189,66 +253,78 @@ const READ_FAULTS: [&[u8]; 6] = [
     b"options 3: read fault\n",
 ];
 
+/// The files of a replay with three further options files.
+const SIX: [Held<'static>; 6] = [
+    ("licence", b"FEATURE edit acme 2.0 permanent 2 SIGN=00AB\n"),
+    ("options", b""),
+    ("script", b""),
+    ("more1", b""),
+    ("more2", b""),
+    ("more3", b""),
+];
+
 /// The first file that is absent, or whose reading fails, is told.
 #[test]
 fn a_file_that_is_not_read_is_a_read_fault(rt: HostRuntime) -> Result<(), Fail> {
-    let held: [Held<'_>; 6] = [
-        ("licence", TWO),
-        ("options", b""),
-        ("script", b""),
-        ("more1", b""),
-        ("more2", b""),
-        ("more3", b""),
-    ];
-    for (number, line) in READ_FAULTS.iter().enumerate() {
-        let ended = run_failing(rt.alloc(), &REPLAY_MORE, &held, &[number as u64], &[])?;
-        expect(&rt, &ended, 6, b"", line);
-        let ended = run(rt.alloc(), &REPLAY_MORE, &held[..number])?;
-        expect(&rt, &ended, 6, b"", line);
+    const HALF: Row<'static> = Row {
+        words: &["check", "licence", "options"],
+        held: &[("licence", b"FEATURE edit acme 2.0 permanent 2 SIGN=00AB\n")],
+        code: 6,
+        err: b"options: read fault\n",
+        ..PLAIN
+    };
+    for (number, err) in READ_FAULTS.iter().enumerate() {
+        let failing = [number as u64];
+        let absent = Row {
+            words: &[
+                "replay", "licence", "options", "script", "more1", "more2", "more3",
+            ],
+            held: &SIX[..number],
+            code: 6,
+            err,
+            ..PLAIN
+        };
+        run(&rt, &absent)?;
+        let unread = Row {
+            held: &SIX,
+            reads: &failing,
+            ..absent
+        };
+        run(&rt, &unread)?;
     }
-    let ended = run(rt.alloc(), &CHECK, &held[..1])?;
-    expect(&rt, &ended, 6, b"", b"options: read fault\n");
-    Ok(())
+    run(&rt, &HALF)
 }
 
-/// The first file at fault decides, and nothing is written before the last one was accepted.
+/// The one write of a command fails, also of one that would end by a log that is no run. A write that isn't made fails
+/// nothing.
 #[test]
-fn the_first_file_at_fault_decides(rt: HostRuntime) -> Result<(), Fail> {
-    let good: &[u8] = b"0 0 ann h1 d1 p1 CHECKOUT edit 1.0\n";
-    let bad: &[u8] = b"MAX x edit USER ann\n";
-    let rows: [(&[u8], &[u8], &[u8], &[u8], u8, &[u8]); 6] = [
-        (
-            b"PACKET\n",
-            bad,
-            b"0\n",
-            bad,
-            3,
-            b"licence: line 1: bad word 1\n",
-        ),
-        (TWO, bad, b"0\n", bad, 4, b"options: line 1: bad number\n"),
-        (TWO, b"", b"0\n", bad, 5, b"script: line 1: word count\n"),
-        (TWO, b"", good, bad, 4, b"options 1: line 1: bad number\n"),
-        (
-            TWO,
-            b"",
-            good,
-            b"NOLOG\n\n\nEXCLUDE edit GROUP h\n",
-            4,
-            b"options 1: line 4: unknown group\n",
-        ),
-        (TWO, b"", good, b"NOLOG\n", 0, b""),
+fn a_write_that_fails_is_a_write_fault(rt: HostRuntime) -> Result<(), Fail> {
+    const NONE: Row<'static> = Row {
+        writes: &[0],
+        code: 7,
+        err: b"write fault\n",
+        ..PLAIN
+    };
+    const ROWS: &[Row<'static>] = &[
+        Row {
+            words: &["check", "licence", "options"],
+            ..NONE
+        },
+        Row {
+            words: &["replay", "licence", "options", "script"],
+            ..NONE
+        },
+        Row {
+            words: &["audit", "licence", "options", "denying"],
+            ..NONE
+        },
+        Row {
+            writes: &[1],
+            ..REPLAY
+        },
     ];
-    for (licence, options, script, more, code, err) in rows {
-        let held = [
-            ("licence", licence),
-            ("options", options),
-            ("script", script),
-            ("more", more),
-        ];
-        let words = ["replay", "licence", "options", "script", "more"];
-        let out: &[u8] = if code == 0 { b"GRANTED OPEN #0\n" } else { b"" };
-        let ended = run(rt.alloc(), &words, &held)?;
-        expect(&rt, &ended, code, out, err);
+    for row in ROWS {
+        run(&rt, row)?;
     }
     Ok(())
 }

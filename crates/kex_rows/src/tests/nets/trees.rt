@@ -1,46 +1,65 @@
 ghost use Rattle.std.specs.Prelude.{◌≡◌, ◌<◌, ◌≤◌};
 
+use super::are_caps;
 use kex_core::{Net, NoMemory};
 use kex_net::{chain, gated, tree};
 use std::alloc::Global;
 use std::test::Fail;
 
-/// Whether the net has these stages and starts, where the number of stages means Exit.
-fn has_lists(net: &Net, caps: &[u32], next: &[u32], start: &[u32]) -> bool {
+/// Whether these stages follow on the net's stages, where the number of stages means Exit.
+fn has_nexts(net: &Net, next: &[u32]) -> bool {
     let exit = net.stages();
-    exit as usize == caps.len()
-        && caps.len() == next.len()
-        && net.parties() as usize == start.len()
-        && caps
-            .iter()
-            .enumerate()
-            .all(|(j, cap)| net.cap(j as u32) == *cap)
+    exit as usize == next.len()
         && next
             .iter()
             .enumerate()
             .all(|(j, k)| net.next(j as u32).unwrap_or(exit) == *k)
+}
+
+/// Whether the net's parties start at these stages, where the number of stages means Exit.
+fn has_starts(net: &Net, start: &[u32]) -> bool {
+    let exit = net.stages();
+    net.parties() as usize == start.len()
         && start
             .iter()
             .enumerate()
             .all(|(p, j)| net.start(p as u32).unwrap_or(exit) == *j)
 }
 
+/// Whether the net has these stages and starts.
+fn has_lists(net: &Net, caps: &[u32], next: &[u32], start: &[u32]) -> bool {
+    are_caps(net, caps) && has_nexts(net, next) && has_starts(net, start)
+}
+
+/// Whether the tree for n and k has these stages and starts.
+fn is_tree(
+    alloc: Global,
+    n: u32,
+    k: u32,
+    caps: &[u32],
+    next: &[u32],
+    start: &[u32],
+) -> Result<bool, NoMemory>
+    requires { (2 ≤ n) × (n ≤ 256) × (1 ≤ k) }
+{
+    Ok(has_lists(&tree(alloc, n, k)?, caps, next, start))
+}
+
 #[test]
 fn trees_pair_their_groups(rt: HostRuntime) -> Result<(), Fail> {
-    let five = tree(rt.alloc(), 5, 2)?;
-    assert!(rt; has_lists(&five, &[3, 2, 2], &[1, 2, 3], &[0, 0, 0, 0, 2]));
-    let eight = tree(rt.alloc(), 8, 2)?;
+    assert!(rt; is_tree(rt.alloc(), 5, 2, &[3, 2, 2], &[1, 2, 3], &[0, 0, 0, 0, 2])?);
     assert!(rt;
-        has_lists(
-            &eight,
+        is_tree(
+            rt.alloc(),
+            8,
+            2,
             &[3, 2, 3, 2, 3, 2],
             &[1, 4, 3, 4, 5, 6],
             &[0, 0, 0, 0, 2, 2, 2, 2]
-        )
+        )?
     );
-    let three = tree(rt.alloc(), 3, 5)?;
-    assert!(rt; has_lists(&three, &[], &[], &[0, 0, 0]));
-    assert_eq!(rt; three.width(), 3);
+    assert!(rt; is_tree(rt.alloc(), 3, 5, &[], &[], &[0, 0, 0])?);
+    assert_eq!(rt; tree(rt.alloc(), 3, 5)?.width(), 3);
     Ok(())
 }
 
@@ -94,6 +113,16 @@ fn are_paths(net: &Net, length: u32) -> bool {
     longest_path(net) == length && shortest_path(net) == length
 }
 
+/// Whether each path for 256 parties has so many stages in the tree and in the chain, and the tree has as many stages
+/// as a path of the chain.
+fn are_long(alloc: Global, k: u32, in_tree: u32, in_chain: u32) -> Result<bool, NoMemory>
+    requires { 1 ≤ k }
+{
+    let short = tree(alloc, 256, k)?;
+    let is_short = short.stages() == in_chain && are_paths(&short, in_tree);
+    Ok(is_short && are_paths(&chain(alloc, 256, k)?, in_chain))
+}
+
 /// N = 256: a tree of g = 256/m groups has log2 g levels of m stages, a chain 256 - m stages, and that many are in each
 /// net.
 #[test]
@@ -105,11 +134,7 @@ fn paths_are_short_in_trees(rt: HostRuntime) -> Result<(), Fail> {
         (16, 64, 240),
         (64, 128, 192),
     ] {
-        let short = tree(rt.alloc(), 256, k)?;
-        let is_short = short.stages() == in_chain && are_paths(&short, in_tree);
-        assert!(rt; is_short, "tree(256, {k})");
-        let long = chain(rt.alloc(), 256, k)?;
-        assert!(rt; are_paths(&long, in_chain), "chain(256, {k})");
+        assert!(rt; are_long(rt.alloc(), k, in_tree, in_chain)?, "{k} of 256");
     }
     Ok(())
 }
