@@ -5,8 +5,8 @@ import subprocess
 import sys
 import time
 
-TREE = sys.argv[1] if len(sys.argv) > 1 else "crates/seat_bench/out/seat_bench"
-GATE = sys.argv[2] if len(sys.argv) > 2 else "crates/seat_bench/out/seat_bench"
+TREE = sys.argv[1] if len(sys.argv) > 1 else "crates/desk_bench/out/desk_bench"
+GATE = sys.argv[2] if len(sys.argv) > 2 else "crates/desk_bench/out/desk_bench"
 RUNS = 5
 HALF_A_SECOND = 0.5
 
@@ -45,7 +45,7 @@ for path in (TREE, GATE):
         sys.exit(f"bench: {path} isn't built")
 for n, k in [(16, 4), (64, 4), (240, 16)]:
     for threads in (1, 4, 16):
-        tree, gate = [TREE, "tree", str(n), str(k)], [GATE, "gate", str(n), str(k)]
+        tree, gate = [TREE, "seats", "tree", str(n), str(k)], [GATE, "gate", str(n), str(k)]
         of_tree, of_gate = rounds_of(tree, threads), rounds_of(gate, threads)
         runs = [(run(tree, threads, of_tree), run(gate, threads, of_gate)) for _ in range(RUNS)]
         tree_rate, tree_told = told_of("tree", [t for t, _ in runs], threads * of_tree)

@@ -1,7 +1,7 @@
 import os
 import sys
 
-PROGRAM = sys.argv[1] if len(sys.argv) > 1 else "crates/linger_bench/out/linger_bench"
+PROGRAM = sys.argv[1] if len(sys.argv) > 1 else "crates/desk_bench/out/desk_bench"
 FEW, MANY, TIMES = 1_000, 1_001_000, 5
 
 
@@ -9,7 +9,7 @@ def seconds(kind, room, rounds):
     """The processor time of one run, which what else the machine does disturbs little."""
     child = os.posix_spawn(
         PROGRAM,
-        [PROGRAM, kind, str(room), str(rounds)],
+        [PROGRAM, "clock", kind, str(room), str(rounds)],
         os.environ,
         file_actions=[(os.POSIX_SPAWN_OPEN, 1, os.devnull, os.O_WRONLY, 0)],
     )

@@ -3,11 +3,11 @@ import subprocess
 import sys
 import time
 
-PROGRAM = sys.argv[1] if len(sys.argv) > 1 else "crates/seat_bench/out/seat_bench"
+PROGRAM = sys.argv[1] if len(sys.argv) > 1 else "crates/desk_bench/out/desk_bench"
 
 
 def words(kind, n, k, threads, rounds):
-    return [PROGRAM, kind, str(n), str(k), str(threads), str(rounds)]
+    return [PROGRAM, "seats", kind, str(n), str(k), str(threads), str(rounds)]
 
 
 def seconds(kind, n, k, threads, rounds):

@@ -1,4 +1,4 @@
-//! Makes calls on a desk, or on the lock, the board or the log that a desk has, to measure what a call costs.
+//! Makes calls on a desk, or on one of the parts that a desk has, to measure what a call costs.
 //!
 //! `desk_bench desk THREADS ROUNDS SEATS` makes a desk of SEATS licences with a party for each of THREADS, from 1 to
 //! 256, but two at least, and each asks CHECKOUT and CHECKIN in turn, ROUNDS times each, on so many threads at once. It
@@ -15,18 +15,35 @@
 //! `desk_bench log THREADS ROUNDS` makes a queue for each round and pushes 4,096 entries: with one thread they are taken
 //! out behind that, with two by another thread meanwhile. It prints the number of the entries that came out, so that a
 //! lost one shows.
+//!
+//! `desk_bench seats chain N K THREADS ROUNDS` makes the seats of `chain(N, K)`, and the first THREADS of the N parties
+//! enter and leave ROUNDS times each, every one in a thread of its own; `desk_bench seats tree ..` does so with
+//! `tree(N, K)`. It prints the number of the pairs, so that a lost one shows. With no threads it only makes the seats,
+//! to measure their memory. `desk_bench gate N K THREADS ROUNDS` does so with the seats behind a fast gate for N sessions
+//! and K licences, and prints as well how many of the pairs went the fast way: all of them, where there are at most K
+//! threads.
+//!
+//! `desk_bench clock settle ROOM ROUNDS` takes the first deadline out of a full clock of lingering seats and adds one
+//! for its owner, ROUNDS times over; `desk_bench clock remove ROOM ROUNDS` does so with the deadline of an owner that a
+//! generator picks. It prints the sum of the owners, modulo 2^64, so that a wrong answer shows.
 #![tactic(auto)]
 
 mod boards;
+mod clocks;
 mod desks;
+mod gates;
 mod locks;
 mod logs;
+mod nets;
 
 use anyhow::{Context, Result, bail};
 use boards::front_of_board;
+use clocks::owners_of_clock;
 use desks::grants_of_desk;
+use gates::{Pairs, pairs_at_gate};
 use locks::calls_of_lock;
 use logs::entries_of_log;
+use nets::pairs_on_net;
 use std::env;
 
 fn main(rt: HostRuntime) -> Result<()> {
@@ -37,7 +54,14 @@ fn main(rt: HostRuntime) -> Result<()> {
         "board" => front_of_board(&rt, rt.alloc(), words)?,
         "log" => entries_of_log(&rt, rt.alloc(), words)?,
         "desk" => grants_of_desk(&rt, rt.alloc(), words)?,
-        _ => bail!("neither lock, board, log nor desk"),
+        "seats" => pairs_on_net(&rt, rt.alloc(), words)?,
+        "clock" => owners_of_clock(rt.alloc(), words)?,
+        "gate" => {
+            let Pairs { all, fast } = pairs_at_gate(&rt, rt.alloc(), words)?;
+            println!(rt; "{all} pairs, {fast} fast")?;
+            return Ok(());
+        }
+        _ => bail!("neither lock, board, log, seats, gate, clock nor desk"),
     };
     println!(rt; "{told}")?;
     Ok(())

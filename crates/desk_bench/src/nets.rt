@@ -1,7 +1,7 @@
 //! Pairs of enter and leave on the seats of a net.
 ghost use Rattle.std.specs.Prelude.{◌≡◌, ◌≤◌, IfOk};
 
-use anyhow::{Context, Result, ensure};
+use anyhow::{Context, Result, bail, ensure};
 use kex_core::{Net, NoMemory};
 use kex_net::{chain, tree};
 use kex_words::Out;
@@ -13,9 +13,17 @@ use std::thread::{Threads, map_vec};
 
 /// Which net the seats have.
 #[derive(Clone, Copy)]
-pub enum Kind {
+enum Kind {
     Chain,
     Tree,
+}
+
+fn kind_of(word: &str) -> Result<Kind> {
+    match word {
+        "chain" => Ok(Kind::Chain),
+        "tree" => Ok(Kind::Tree),
+        _ => bail!("neither chain nor tree"),
+    }
 }
 
 impl Kind {
@@ -48,9 +56,9 @@ fn pairs<R: Wait>(rt: &R, seats: &Seats, mut out: Out, rounds: u32) -> u64
 pub fn pairs_on_net<R: Threads + Wait + Sync>(
     rt: &R,
     alloc: Global,
-    kind: Kind,
     mut words: Args,
 ) -> Result<u64> {
+    let kind = kind_of(words.next().context("no kind")?.as_str())?;
     let n: u32 = words.next().context("no number of parties")?.parse()?;
     let k: u32 = words.next().context("no number of licences")?.parse()?;
     let threads: usize = words.next().context("no number of threads")?.parse()?;

@@ -1,15 +1,10 @@
-//! Runs a full clock of lingering seats as often as its arguments say, to measure what a call costs.
-//!
-//! `linger_bench settle ROOM ROUNDS` takes out the first deadline and adds one for its owner, ROUNDS times over;
-//! `linger_bench remove ROOM ROUNDS` does so with the deadline of an owner that a generator picks. It prints the sum of
-//! the owners, modulo 2^64, so that a wrong answer shows.
-#![tactic(auto)]
-
+//! Calls of a full clock of lingering seats.
 ghost use Rattle.std.specs.Prelude.{◌<◌};
 
 use anyhow::{Context, Result, bail, ensure};
 use linger_clock::Clock;
-use std::env;
+use std::alloc::Global;
+use std::env::Args;
 
 /// Which call goes with `add` in a round.
 #[derive(Clone, Copy)]
@@ -67,14 +62,12 @@ fn rounds(clock: &mut Clock, kind: Kind, room: u32, count: u32) -> u64
     sum
 }
 
-fn main(rt: HostRuntime) -> Result<()> {
-    let mut words = env::args(&rt)?.skip(1);
+/// The sum of the owners that the calls of these words take out, modulo 2^64.
+pub fn owners_of_clock(alloc: Global, mut words: Args) -> Result<u64> {
     let kind = kind_of(words.next().context("no kind")?.as_str())?;
     let room: u32 = words.next().context("no room")?.parse()?;
     let count: u32 = words.next().context("no count")?.parse()?;
     ensure!(room > 0, "a room of 0");
-    let mut clock = Clock::make(rt.alloc(), room)?;
-    let sum = rounds(&mut clock, kind, room, count);
-    println!(rt; "{sum}")?;
-    Ok(())
+    let mut clock = Clock::make(alloc, room)?;
+    Ok(rounds(&mut clock, kind, room, count))
 }
