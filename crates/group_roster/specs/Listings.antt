@@ -8,6 +8,10 @@ abbrev pub print_after : ℕ → List ℕ → ℕ
 print_after print [] = print
 print_after print (b ∷ bs) = print_after ((print * 6364136223846793005 % 2 ^ 64 + b) % 2 ^ 64) bs
 
+-- the print of a name by itself
+abbrev pub name_print : List ℕ → ℕ
+name_print name = print_after 0 name
+
 -- the print of a group's name, that of a group of hosts apart from that of users
 abbrev pub group_print : Bool → List ℕ → ℕ
 group_print true name = print_after 1 name

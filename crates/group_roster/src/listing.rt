@@ -28,7 +28,7 @@ impl<'a> Model for Listing<'a> {
 }
 
 /// The print of bytes that stand behind others, of which this is the print.
-fn print_after(print: u64, bytes: &[u8]) -> u64
+pub(crate) fn print_after(print: u64, bytes: &[u8]) -> u64
     ensures { result ≡ print_after print bytes.now }
 {
     let mut after = print;

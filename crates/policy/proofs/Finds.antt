@@ -24,7 +24,3 @@ filter_map_found f ys xs i x y e g = rw (next_item xs i x e, g) (append_assoc ys
 -- and of one that finds nothing
 pub filter_map_passed : {X Y : Type 0} (f : X → Option Y) (xs : List X) (i : ℕ) (x : X) → slice_get xs i ≡ Some x → f x ≡ None → filter_map f (drop (i + 1) xs) ≡ filter_map f (drop i xs)
 filter_map_passed f xs i x e g = rw (next_item xs i x e, g) refl
-
--- a step of a search that finds nothing
-pub find_passed : {X : Type 0} (p : X → Bool) (xs : List X) (i : ℕ) (x : X) → slice_get xs i ≡ Some x → p x ≡ false → find p (drop (i + 1) xs) ≡ find p (drop i xs)
-find_passed p xs i x e g = rw (next_item xs i x e, g) refl

@@ -138,3 +138,11 @@ pub left_more : (g : RuleLine → Option Limit) (lines : List RuleLine) (i asked
     → i < length lines → line ≡ get_or lines i line → g line ≡ with_number line (Some asked)
     → left_of (left - asked) (filter_map g (drop (i + 1) lines)) ≡ left_of left (filter_map g (drop i lines))
 left_more g lines i asked left line lt is has = rw (next_line lines i line lt is, has) refl
+
+-- the lines from a place on are that one's and those after it
+pub next_at : (lines : List RuleLine) (places : List ℕ) (i : ℕ) (line : RuleLine) → AreThere lines places → i < length places → line ≡ get_or lines (get_or places i 0) line
+    → lines_at lines (drop i places) ≡ line ∷ lines_at lines (drop (i + 1) places)
+next_at lines places i line there lt is =
+    let within : get_or places i 0 < length lines = All-get_or (λ p. p < length lines) places i 0 lt there in
+    let here : slice_get lines (get_or places i 0) ≡ Some line = slice_get_read lines (length lines) (get_or places i 0) line refl within is in
+    rw (drop_more places i 0 lt, here) refl

@@ -1,3 +1,4 @@
+pub mod Barring
 pub mod Books
 pub mod Changes
 pub mod Kept
