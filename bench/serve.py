@@ -64,8 +64,13 @@ def compare(program, peers):
 
 
 def larger_sites(program, peers):
-    lines = "".join(f"EXCLUDE f{n % 64} USER nobody{n}\n" for n in range(1000))
-    for what, pools, options in (("64 pools", 64, ""), ("an options file of 1,000 lines", 1, "".join(f"EXCLUDE f0 USER nobody{n}\n" for n in range(1000))), ("both", 64, lines)):
+    sites = (
+        ("64 pools", 64, ""),
+        ("an options file of 1,000 EXCLUDE lines", 1, "".join(f"EXCLUDE f0 USER nobody{n}\n" for n in range(1000))),
+        ("one of 1,000 INCLUDE lines, those of the clients last", 1, "".join(f"INCLUDE f0 USER u{n}\n" for n in reversed(range(1000)))),
+        ("64 pools, 1,000 EXCLUDE lines over them", 64, "".join(f"EXCLUDE f{n % 64} USER nobody{n}\n" for n in range(1000))),
+    )
+    for what, pools, options in sites:
         for clients in CLIENTS[1:]:
             found = best([daemon(program, peers, clients, pools, options) for _ in range(2)])
             print(f"{what}, {clients} clients: {found[0]:.0f} requests a second; p50 {found[1]:.1f} us, p99 {found[2]:.1f}", flush=True)

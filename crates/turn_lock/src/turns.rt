@@ -25,7 +25,7 @@ use std::{hint, mem};
 
 /// Who waits looks again soon in the first rounds, after a pause that is twice as long each time, and then sleeps after
 /// each look.
-const SPINS: u32 = 7;
+const SPINS: u32 = 9;
 
 /// The first sleep, in microseconds. Each further one is twice as long, up to the longest.
 const FIRST_NAP: u64 = 50;
