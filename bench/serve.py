@@ -12,6 +12,7 @@ from daemon import Daemon
 CLIENTS = (1, 16, 256)
 RUNS = 5
 MILLISECONDS = 2000
+DELAYS = (0, 100, 200, 300, 400, 600, 800)
 PERMANENT = "FEATURE f{} acme 1.0 permanent 300 SIGN=00AB\n"
 TICKS = os.sysconf("SC_CLK_TCK")
 
@@ -23,14 +24,15 @@ def ask(peers, path, clients, pools=1, milliseconds=MILLISECONDS):
     return [float(word) for word in told.stdout.split()]
 
 
-def echo(peers, clients):
+def echo(peers, clients, delay=0, milliseconds=MILLISECONDS):
+    """The same of the echo, which waits so many nanoseconds before each answer."""
     with tempfile.TemporaryDirectory() as folder:
         path = f"{folder}/socket"
-        server = subprocess.Popen([f"{peers}/echo", path])
+        server = subprocess.Popen([f"{peers}/echo", path, str(delay)])
         try:
             while not os.path.exists(path):
                 time.sleep(0.001)
-            return ask(peers, path, clients)
+            return ask(peers, path, clients, milliseconds=milliseconds)
         finally:
             server.kill()
             server.wait()
@@ -61,6 +63,17 @@ def compare(program, peers):
         echoes, served = best(theirs), best(ours)
         tails = "; ".join(" ".join(f"{it:.1f}" for it in figures[1:]) for figures in (echoes, served))
         print(f"{clients}: {echoes[0]:.0f} {served[0]:.0f} {served[0] / echoes[0]:.2f}; {tails}; {served[2] / echoes[2]:.2f}", flush=True)
+
+
+def later_echoes(peers):
+    """What one client loses where an answer comes later by some hundred nanoseconds."""
+    runs = {delay: [] for delay in DELAYS}
+    for _ in range(RUNS):
+        for delay, found in runs.items():
+            found.append(echo(peers, 1, delay, MILLISECONDS // 4))
+    for delay, found in runs.items():
+        rate = best(found)[0]
+        print(f"1 client, an echo {delay} ns later: {rate:.0f} requests a second, {rate / best(runs[0])[0]:.2f}", flush=True)
 
 
 def larger_sites(program, peers):
@@ -112,6 +125,7 @@ def main():
         sys.exit(f"bench: {program} isn't built")
     at_rest(program)
     compare(program, peers)
+    later_echoes(peers)
     larger_sites(program, peers)
 
 
