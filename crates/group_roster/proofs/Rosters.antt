@@ -1,8 +1,7 @@
-use Rattle.std.proofs.Common.{◌≡◌, ℕ, suc, ◌+◌, ◌<◌, ◌==◌, Bool, true, false, ◌&&◌, ◌||◌, not, cond, List, [], ◌∷◌, ◌++◌, length, get_or, drop, append_assoc, drop-cons, Option, Some, slice_get, unwrap_or, Result, Ok, Err, is_ok, inl, inr, refl, sym, ap, subst, ◌∙◌, arith, zero-add, true≢false}
+use Rattle.std.proofs.Common.{◌≡◌, ℕ, suc, ◌+◌, ◌<◌, Bool, true, false, ◌&&◌, ◌||◌, not, cond, List, [], ◌∷◌, ◌++◌, length, get_or, drop, append_assoc, drop-cons, Option, Some, slice_get, unwrap_or, Result, Ok, Err, is_ok, inl, inr, refl, sym, ap, subst, ◌∙◌, arith, zero-add, true≢false}
 use denote.Param.Members.{Mut}
 use denote.Ref.{Bor}
 use Rattle.std.proofs.lemmas.Bool.{cases_order}
-use Rattle.std.proofs.lemmas.Bool.Decides.{nat_tests}
 use Rattle.std.proofs.lemmas.Cmp.{nat_cmp_total, nat_list_cmp_total, nat_list_eq_equiv, on_total, then_total, tied_itself}
 use Rattle.std.proofs.lemmas.Fn.{always_returns_same}
 use Rattle.std.proofs.lemmas.List.Folds.{list_any-append, list_any_at, list_any_none}
@@ -12,7 +11,7 @@ use Rattle.std.specs.Cmp.{IsStrictWeakOrder, IsTotalOrder, bool_cmp_total}
 use Rattle.std.specs.Cmp.Lexicographic.{bytes_decides, slice_cmp}
 use Rattle.std.specs.Fn.{Called, ComparesAs}
 use Rattle.std.specs.List.{list_any}
-use Rattle.std.specs.List.Sorted.{IsBinarySearchResult, IsNonDecreasingBy, IsPartitionPoint, IsPermutation, IsSearchInRange, IsSorted, IsSortedBy}
+use Rattle.std.specs.List.Sorted.{IsBinarySearchResult, IsNonDecreasingBy, IsPartitionPoint, IsPermutation, IsSearchInRange, IsSortedBy}
 use Rattle.std.specs.Ordering.{bool_cmp, is_eq, is_lt, nat_cmp, ordering_index, ordering_then}
 use Rattle.std.specs.declared.cmp.Ordering.{Ordering}
 use Rattle.std.specs.declared.cmp.Ordering.TheVariants.{Less, Equal, Greater}
@@ -187,7 +186,7 @@ ordered_by {g = g} {f = f} groups order up h =
     up (λ a b. is_lt (listing_cmp (listing_at groups a) (listing_at groups b))) (ranks_by listing_total (listing_at groups))
     (always_returns_same g (λ a r. is_lt r ≡ is_lt (listing_cmp (listing_at groups a.0.now) (listing_at groups a.1.0.now))) f (λ a r f' k. (ap is_lt (h a r f' k).0, (h a r f' k).1)))
 
-not_at : {X : Type 0} (ord : X → Ordering) (xs : List X) (i : ℕ) → IsPartitionPoint (λ y. ord y ≡ Less) (λ y. ord y ≡ Greater) xs i → (k : ℕ) (d : X) → k < length xs → is_eq (ord (get_or xs k d)) ≡ false
+pub not_at : {X : Type 0} (ord : X → Ordering) (xs : List X) (i : ℕ) → IsPartitionPoint (λ y. ord y ≡ Less) (λ y. ord y ≡ Greater) xs i → (k : ℕ) (d : X) → k < length xs → is_eq (ord (get_or xs k d)) ≡ false
 not_at ord xs i parts k d within = elim (cases_order k i) [
   | inl e ↦ ap is_eq (parts.1 k d (omega arith) within)
   | inr apart ↦ elim apart [ inl before ↦ ap is_eq (parts.0 k d (omega arith) before) | inr after ↦ ap is_eq (parts.1 k d (omega arith) within) ]
@@ -207,24 +206,3 @@ pub found_in_order : (groups : List GroupLine) (order : List Membership) (l : Li
     → is_ok r ≡ list_any (λ (m : Membership). is_eq (listing_cmp (listing_at groups m) l)) order
 found_in_order groups order l r sorted within result =
     found_so (λ (m : Membership). listing_cmp (listing_at groups m) l) order r within result (searchable_from_sorted listing_total (listing_at groups) order l sorted)
-
-is_eq-nat_cmp : (a b : ℕ) → is_eq (nat_cmp a b) ≡ (a == b)
-is_eq-nat_cmp a b = grind (arith, nat_tests)
-
-same_tests : {X : Type 0} (p q : X → Bool) → ((x : X) → p x ≡ q x) → (xs : List X) → list_any p xs ≡ list_any q xs
-same_tests p q h [] = refl
-same_tests p q h (x ∷ xs) = rw (h x, same_tests p q h xs) refl
-
--- a search through numbers in order
-pub found_number : (xs : List ℕ) (x : ℕ) (r : Result ℕ ℕ) → IsSorted nat_cmp xs → IsSearchInRange r (length xs) → IsBinarySearchResult (λ (y : ℕ). nat_cmp y x) xs r → is_ok r ≡ list_any (λ (y : ℕ). y == x) xs
-found_number xs x r sorted within result =
-    found_so (λ (y : ℕ). nat_cmp y x) xs r within result (searchable_from_sorted nat_cmp_total (λ (y : ℕ). y) xs x sorted)
-    ∙ same_tests (λ (y : ℕ). is_eq (nat_cmp y x)) (λ (y : ℕ). y == x) (λ y. is_eq-nat_cmp y x) xs
-
--- the same, where the numbers and the one that is sought were read
-pub found_number_as : (items seen read : List ℕ) (x sought : ℕ) (r : Result ℕ ℕ) → read ≡ items → items ≡ seen → x ≡ sought
-    → IsSorted nat_cmp items → IsSearchInRange r (length read) → IsBinarySearchResult (λ (y : ℕ). nat_cmp y x) read r → is_ok r ≡ list_any (λ (y : ℕ). y == sought) seen
-found_number_as items seen read x sought r e v s sorted within result =
-    found_number read x r (subst (IsSorted nat_cmp) (sym e) sorted) within result
-    ∙ ap (list_any (λ (y : ℕ). y == x)) (e ∙ v)
-    ∙ ap (λ (n : ℕ). list_any (λ (y : ℕ). y == n) seen) s

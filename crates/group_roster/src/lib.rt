@@ -6,5 +6,5 @@ mod listing;
 mod prints;
 mod roster;
 
-pub use prints::{Prints, name_print};
+pub use prints::{Printed, Prints, name_print};
 pub use roster::Roster;

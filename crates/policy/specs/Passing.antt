@@ -1,8 +1,11 @@
-use Rattle.std.specs.Prelude.{◌≡◌, ℕ, ◌==◌, Bool, true, false, List, Option, None, Some, filter, if◌then◌else◌}
-use Rattle.std.specs.List.{filter_map, list_any}
+use Rattle.std.specs.Prelude.{◌≡◌, ℕ, Bool, true, false, List, Option, None, Some, filter, if◌then◌else◌, slice_get}
+use Rattle.std.specs.List.{filter_map}
+use Rattle.std.specs.Option.{option_map}
 use Rattle.lic_types.specs.declared.client.Client.{Client}
 use Rattle.lic_types.specs.declared.client.RuleLine.{RuleLine}
 use Rattle.group_roster.specs.Listings.{name_print}
+use Rattle.group_roster.specs.Printed.{has_print}
+use Rattle.group_roster.specs.declared.prints.Printed.{Printed}
 use Rattle.lic_types.specs.declared.client.Who.{Who}
 use Rattle.lic_types.specs.declared.client.WhoKind.{WhoKind}
 use Rattle.lic_types.specs.declared.client.WhoKind.TheVariants.{User, Host, Display, Project, Group, HostGroup}
@@ -29,17 +32,18 @@ abbrev pub print_of : Option Who → Option ℕ
 print_of None = None
 print_of (Some who) = if is_group who.kind then None else Some (name_print who.name)
 
--- the prints of what the lines name that is no group
-abbrev pub prints_of : List RuleLine → List ℕ
-prints_of lines = filter_map (λ (l : RuleLine). print_of l.who) lines
+-- what is kept by its print of a line that stands at this place
+abbrev pub printed_at : ℕ → Option RuleLine → Option Printed
+printed_at place None = None
+printed_at place (Some line) = option_map (λ (print : ℕ). record { print = print; place = place }) (print_of line.who)
 
--- whether one of these is the print of the name
-abbrev pub has_print : List ℕ → List ℕ → Bool
-has_print prints name = list_any (λ (print : ℕ). print == name_print name) prints
+-- what is kept by their prints of the lines at these places
+abbrev pub printed_of : List RuleLine → List ℕ → List Printed
+printed_of lines places = filter_map (λ (place : ℕ). printed_at place (slice_get lines place)) places
 
--- none of these is the print of a name of the client
-pub record AreOthers (prints : List ℕ) (client : Client) : Type 0 where
-  pub user : has_print prints client.user ≡ false
-  pub host : has_print prints client.host ≡ false
-  pub display : has_print prints client.display ≡ false
-  pub project : has_print prints client.project ≡ false
+-- none of these has the print of a name of the client
+pub record AreOthers (entries : List Printed) (client : Client) : Type 0 where
+  pub user : has_print client.user entries ≡ false
+  pub host : has_print client.host entries ≡ false
+  pub display : has_print client.display entries ≡ false
+  pub project : has_print client.project entries ≡ false

@@ -1,7 +1,8 @@
 use Rattle.std.specs.Prelude.{◌≡◌, ℕ, ◌<◌, All, IsPermutation, List, length, slice_get}
 use Rattle.std.specs.List.{filter_map}
 use Rattle.lic_types.specs.declared.client.RuleLine.{RuleLine}
-use Rattle.policy.specs.Passing.{grouped_of, prints_of}
+use Rattle.group_roster.specs.declared.prints.Printed.{Printed}
+use Rattle.policy.specs.Passing.{grouped_of, printed_of}
 
 -- the lines at these places, from 0
 abbrev pub lines_at : List RuleLine → List ℕ → List RuleLine
@@ -11,9 +12,9 @@ lines_at lines places = filter_map (slice_get lines) places
 abbrev pub AreThere : List RuleLine → List ℕ → Type 0
 AreThere lines places = All (λ place. place < length lines) places
 
--- what is kept of the lines at these places: the places of those that name a group, and the prints of what the others name
-pub record AreSorted (lines : List RuleLine) (places grouped prints : List ℕ) : Type 0 where
+-- what is kept of the lines at these places: the places of those that name a group, and the others by the prints of what they name
+pub record AreSorted (lines : List RuleLine) (places grouped : List ℕ) (printed : List Printed) : Type 0 where
   pub there : AreThere lines places
   pub in_groups : AreThere lines grouped
   pub of_groups : lines_at lines grouped ≡ grouped_of (lines_at lines places)
-  pub others : IsPermutation (prints_of (lines_at lines places)) prints
+  pub others : IsPermutation (printed_of lines places) printed

@@ -5,27 +5,27 @@ ghost use Rattle.std.specs.Option.{option_map};
 ghost use Rattle.options_machine.specs.Decide.{number_of_line};
 ghost use Rattle.options_machine.specs.Rules.{applies};
 ghost use Rattle.policy.specs.Barring.{bars};
-ghost use Rattle.policy.specs.Passing.{AreOthers, grouped_of, is_group, names_group, prints_of};
+ghost use Rattle.policy.specs.Passing.{AreOthers, grouped_of, is_group, names_group, printed_of};
 ghost use Rattle.policy.specs.Places.{AreThere, lines_at};
 
 use crate::matching::applies;
 use crate::selection::{Barring, bars};
-use group_roster::{Prints, Roster, name_print};
+use group_roster::{Printed, Prints, Roster, name_print};
 use lic_types::{Client, Name, NoMemory, RuleLine, Who, WhoKind};
 use options_text::RuleLines;
 use std::alloc::Global;
 use std::marker::Model;
 
 /// Some of the lines of an options file, which a clause sees as their list. It keeps their places in the file's lines,
-/// from 0, and shares those lines, so that a line takes no more room for each pool than two numbers.
+/// from 0, and shares those lines, so that a line takes no more room for each pool than three numbers.
 #[derive(Drop)]
 pub(crate) struct ChosenLines {
     all: RuleLines,
     places: Vec<usize>,
     // The places of those that name a group.
     grouped: Vec<usize>,
-    // The prints of what the others name.
-    prints: Prints,
+    // The places of the others, by the prints of what they name.
+    printed: Prints,
 }
 
 impl Model for ChosenLines {
@@ -37,7 +37,7 @@ impl Model for ChosenLines {
 
     ghost view = { λ c. lines_at c.all c.places.items };
 
-    ghost invariant = { λ c. AreSorted c.all c.places.items c.grouped.items c.prints };
+    ghost invariant = { λ c. AreSorted c.all c.places.items c.grouped.items c.printed };
 }
 
 /// Whether it is a group's name, of users or of hosts.
@@ -105,19 +105,20 @@ fn places_of(
     Ok(places)
 }
 
-/// The places of those among the lines at these places that name a group, and the prints of what the others name.
+/// The places of those among the lines at these places that name a group, and those of the others by the prints of what
+/// they name.
 fn sorted(
     alloc: Global,
     lines: &[RuleLine],
     places: &[usize],
-) -> Result<(Vec<usize>, Vec<u64>), NoMemory>
+) -> Result<(Vec<usize>, Vec<Printed>), NoMemory>
     requires { AreThere lines.now places.now }
     ensures there { IfOk result (λ kept. AreThere lines.now kept.0.items) }
     ensures groups { IfOk result (λ kept. lines_at lines.now kept.0.items ≡ grouped_of (lines_at lines.now places.now)) }
-    ensures prints { IfOk result (λ kept. kept.1.items ≡ prints_of (lines_at lines.now places.now)) }
+    ensures others { IfOk result (λ kept. kept.1.items ≡ printed_of lines.now places.now) }
 {
     let mut grouped = Vec::new(alloc);
-    let mut prints = Vec::new(alloc);
+    let mut printed = Vec::new(alloc);
     for place in places {
         match &lines[*place].who {
             None => {}
@@ -125,12 +126,15 @@ fn sorted(
                 if is_group(who.kind) {
                     grouped.push(*place)?;
                 } else {
-                    prints.push(name_print(&who.name))?;
+                    printed.push(Printed {
+                        print: name_print(&who.name),
+                        place: *place,
+                    })?;
                 }
             }
         }
     }
-    Ok((grouped, prints))
+    Ok((grouped, printed))
 }
 
 impl ChosenLines {
@@ -156,12 +160,12 @@ impl ChosenLines {
         requires { AreThere all.now places.items }
         ensures { IfOk result (λ chosen. chosen ≡ lines_at all.now places.items) }
     {
-        let (grouped, prints) = sorted(alloc, all.as_slice(), places.as_slice())?;
+        let (grouped, printed) = sorted(alloc, all.as_slice(), places.as_slice())?;
         Ok(ChosenLines {
             all: all.share()?,
             places,
             grouped,
-            prints: Prints::of(prints),
+            printed: Prints::of(printed),
         })
     }
 
@@ -187,27 +191,42 @@ impl ChosenLines {
         ensures { result ≡ option_map number_of_line (find (applies groups.now client.now) self.now) }
     {
         let lines = self.all.as_slice();
-        if may_name(&self.prints, client) {
+        if may_name(&self.printed, client) {
             first_at(groups, client, lines, self.places.as_slice())
         } else {
             first_at(groups, client, lines, self.grouped.as_slice())
         }
     }
 
-    /// Whether one of them speaks of the client.
+    /// Whether the line to which a name leads speaks of the client.
+    fn leads_to_one(&self, name: &Name, groups: &Roster, client: &Client) -> bool
+        ensures { IsTrue result → list_any (applies groups.now client.now) self.now ≡ true }
+    {
+        let lines = self.all.as_slice();
+        match self.printed.place_of(name) {
+            Some(place) => applies(groups, client, &lines[place]),
+            None => false,
+        }
+    }
+
+    /// Whether one of them speaks of the client. One that names it alone is looked up first.
     pub(crate) fn any_applies(&self, groups: &Roster, client: &Client) -> bool
         ensures { result ≡ list_any (applies groups.now client.now) self.now }
     {
-        self.first_applying(groups, client).is_some()
+        self.leads_to_one(&client.user, groups, client)
+            || self.leads_to_one(&client.host, groups, client)
+            || self.leads_to_one(&client.display, groups, client)
+            || self.leads_to_one(&client.project, groups, client)
+            || self.first_applying(groups, client).is_some()
     }
 }
 
-/// Whether one of these is the print of a name of the client.
-fn may_name(prints: &Prints, client: &Client) -> bool
-    ensures { result ≡ false → AreOthers prints.now client.now }
+/// Whether one of these has the print of a name of the client.
+fn may_name(printed: &Prints, client: &Client) -> bool
+    ensures { result ≡ false → AreOthers printed.now client.now }
 {
-    prints.has(&client.user)
-        || prints.has(&client.host)
-        || prints.has(&client.display)
-        || prints.has(&client.project)
+    printed.place_of(&client.user).is_some()
+        || printed.place_of(&client.host).is_some()
+        || printed.place_of(&client.display).is_some()
+        || printed.place_of(&client.project).is_some()
 }

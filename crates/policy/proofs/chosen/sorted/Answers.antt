@@ -2,10 +2,11 @@ use Rattle.std.proofs.Common.{◌≡◌, ◌∷◌, ◌++◌, ◌+◌, ◌<◌, 
 use Rattle.std.proofs.lemmas.List.Elements.{All-get_or, All-push}
 use Rattle.std.proofs.lemmas.Option.{slice_get_read}
 use Rattle.lic_types.specs.declared.client.RuleLine.{RuleLine}
+use Rattle.group_roster.specs.declared.prints.Printed.{Printed}
 use Rattle.policy.specs.Passing.{names_group, print_of}
 use Rattle.policy.specs.Places.{lines_at}
 use Rattle.policy.proofs.Placings.{next_at}
-use Rattle.policy.proofs.Others.{grouped_passed, grouped_more, prints_passed, prints_more, print_of-group, print_of-other}
+use Rattle.policy.proofs.Others.{grouped_passed, grouped_more, printed_passed, printed_more, print_of-group, print_of-other}
 use Rattle.policy.proofs.chosen.sorted.Goals as goal
 use Rattle.policy.proofs.chosen.sorted.Goals.{in-None, in-Some+then-is_group+in_ok-push-in-Some, in-Some+else-is_group+in_ok-push-in-Some-2}
 
@@ -22,14 +23,14 @@ loop-place-preserved c =
     let here : slice_get lines place ≡ Some line = slice_get_read lines (length lines) place line refl within c.index-lines-place.is in
     let before = c.loop-place.invariant in
     let no_group = λ (silent : names_group line.who ≡ false). ap (λ (ls : List RuleLine). lines_at lines c.loop-place.grouped.items ++ ls) (grouped_passed line rest whole silent step) ∙ before.of_groups in
-    let no_print = λ (silent : print_of line.who ≡ None). ap (λ (ns : List ℕ). c.loop-place.prints.items ++ ns) (prints_passed line rest whole silent step) ∙ before.others in
+    let no_print = λ (silent : print_of line.who ≡ None). ap (λ (es : List Printed). c.loop-place.printed.items ++ es) (printed_passed lines c.args.places.now i line c.loop-place-test.true here silent) ∙ before.others in
     elim c.match-lines-place.branch [
       | in-None w ↦
           let who = ap (λ (l : RuleLine). l.who) c.index-lines-place.is ∙ w.in-None.is in
           record {
             in_groups = rw w.grouped-is before.in_groups;
             of_groups = rw w.grouped-is (no_group (ap names_group who));
-            others = rw w.prints-is (no_print (ap print_of who));
+            others = rw w.printed-is (no_print (ap print_of who));
           }
       | in-Some+then-is_group+in_ok-push-in-Some w ↦
           let who = ap (λ (l : RuleLine). l.who) c.index-lines-place.is ∙ w.in-Some.is in
@@ -38,17 +39,17 @@ loop-place-preserved c =
           record {
             in_groups = rw items (All-push (λ (n : ℕ). n < length lines) c.loop-place.grouped.items place before.in_groups within);
             of_groups = rw items (grouped_more lines c.loop-place.grouped.items place line rest whole (ap names_group who ∙ of_group) step here ∙ before.of_groups);
-            others = rw w.prints-is (no_print (ap print_of who ∙ print_of-group w.in-Some.who of_group));
+            others = rw w.printed-is (no_print (ap print_of who ∙ print_of-group w.in-Some.who of_group));
           }
       | in-Some+else-is_group+in_ok-push-in-Some-2 w ↦
           let who = ap (λ (l : RuleLine). l.who) c.index-lines-place.is ∙ w.in-Some.is in
           let of_other = sym w.is_group.ensures ∙ w.if-is_group.false in
-          let items = ap (λ (v : _). v.items) w.prints-is ∙ w.in_ok-push-in-Some-2.ensures.items in
+          let items = ap (λ (v : _). v.items) w.printed-is ∙ w.in_ok-push-in-Some-2.ensures.items in
           record {
             in_groups = rw w.grouped-is before.in_groups;
             of_groups = rw w.grouped-is (no_group (ap names_group who ∙ of_other));
             others =
                 rw (items, w.name_print.ensures)
-                (prints_more c.loop-place.prints.items _ line rest whole (ap print_of who ∙ print_of-other w.in-Some.who of_other) step ∙ before.others);
+                (printed_more lines c.args.places.now i line c.loop-place.printed.items _ c.loop-place-test.true here (ap print_of who ∙ print_of-other w.in-Some.who of_other) ∙ before.others);
           }
     ]

@@ -1,0 +1,7 @@
+use Rattle.std.proofs.Common.{rules}
+use Rattle.std.proofs.lemmas.Fn.{always_returns_same}
+use Rattle.group_roster.specs.declared.prints.Printed.{Printed}
+use Rattle.group_roster.proofs.prints.Prints.of.Goals as goal
+
+pub invariant_of-result : goal.invariant_of-result
+invariant_of-result c = c.sort_unstable_by_key.ensures.sorted (λ (p : Printed). p.print) (always_returns_same _ _ _ (λ a r f k. search rules))
