@@ -68,9 +68,9 @@ def compare(program, peers):
 def later_echoes(peers):
     """What one client loses where an answer comes later by some hundred nanoseconds."""
     runs = {delay: [] for delay in DELAYS}
-    for _ in range(RUNS):
+    for _ in range(2 * RUNS):
         for delay, found in runs.items():
-            found.append(echo(peers, 1, delay, MILLISECONDS // 4))
+            found.append(echo(peers, 1, delay, MILLISECONDS // 6))
     for delay, found in runs.items():
         rate = best(found)[0]
         print(f"1 client, an echo {delay} ns later: {rate:.0f} requests a second, {rate / best(runs[0])[0]:.2f}", flush=True)
