@@ -190,6 +190,9 @@ impl ChosenLines {
     pub(crate) fn first_applying(&self, groups: &Roster, client: &Client) -> Option<u32>
         ensures { result ≡ option_map number_of_line (find (applies groups.now client.now) self.now) }
     {
+        if self.places.is_empty() {
+            return None;
+        }
         let lines = self.all.as_slice();
         if may_name(&self.printed, client) {
             first_at(groups, client, lines, self.places.as_slice())
@@ -213,6 +216,9 @@ impl ChosenLines {
     pub(crate) fn any_applies(&self, groups: &Roster, client: &Client) -> bool
         ensures { result ≡ list_any (applies groups.now client.now) self.now }
     {
+        if self.places.is_empty() {
+            return false;
+        }
         self.leads_to_one(&client.user, groups, client)
             || self.leads_to_one(&client.host, groups, client)
             || self.leads_to_one(&client.display, groups, client)
