@@ -2,7 +2,8 @@
 ghost use Rattle.std.specs.Prelude.{◌≡◌, ◌||◌, nat_lt, nat_le};
 ghost use Rattle.daemon_outside.specs.Doors.{most_fails};
 
-use crate::link::{UnixLink, is_quiet};
+use crate::link::UnixLink;
+use crate::socket::is_quiet;
 use daemon_outside::{Came, Door, FAIL_LIMIT};
 use std::io::{self, ErrorKind};
 use std::os::unix::net::UnixListener;

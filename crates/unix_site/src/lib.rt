@@ -2,11 +2,13 @@
 //! worker, the system's clock, and one bell for all. Nothing of what they give or take is told.
 #![tactic(auto)]
 
+mod busy_poll;
 mod clock;
 mod door;
 mod link;
 mod listening;
 mod site;
+mod socket;
 
 pub use clock::SystemClock;
 pub use door::UnixDoor;

@@ -45,6 +45,33 @@ fn a_line_goes_over_a_socket_both_ways(rt: HostRuntime) -> Result<(), Fail> {
     Ok(())
 }
 
+/// Whether a read looks before it waits or not: a hundred lines that are answered, and a Quiet before each fifty.
+#[test]
+fn lines_go_over_a_socket_in_turn(rt: HostRuntime) -> Result<(), Fail> {
+    let path = path(&rt, "turns")?;
+    let mut site = UnixSite::make(rt.clone()?, rt.alloc())?;
+    assert!(rt; site.listen(path.as_str()).is_ok());
+    let mut post = site.post()?;
+    let mut client = UnixStream::connect(&rt, path.as_str())?;
+    let Came::Link(mut link) = post.door.accept() else {
+        return Err(Fail::from("no link"));
+    };
+    let mut room = [0u8; 8];
+    for line in 0..100 {
+        if line % 50 == 0 {
+            assert!(rt; link.read(&mut room) == Got::Quiet);
+        }
+        client.write_all(b"LOOK\n")?;
+        assert!(rt; link.read(&mut room) == Got::Bytes(5));
+        assert!(rt; link.write(b"HELD\n").is_ok());
+        assert_eq!(rt; client.read(&mut room)?, 5);
+    }
+    post.door.done(link);
+    site.retire(post);
+    site.close();
+    Ok(())
+}
+
 #[test]
 fn a_stale_socket_is_replaced_and_a_served_one_is_left(rt: HostRuntime) -> Result<(), Fail> {
     let path = path(&rt, "stale")?;
@@ -109,17 +136,20 @@ fn bells_ring_together_in_all_threads_and_the_clock_counts_seconds(
     Ok(())
 }
 
+/// Also behind a read that found its bytes at once, since the link doesn't wait then.
 #[test]
 fn a_write_fails_where_the_client_reads_nothing(rt: HostRuntime) -> Result<(), Fail> {
     let path = path(&rt, "write")?;
     let mut site = UnixSite::make(rt.clone()?, rt.alloc())?;
     assert!(rt; site.listen(path.as_str()).is_ok());
     let mut post = site.post()?;
-    let client = UnixStream::connect(&rt, path.as_str())?;
+    let mut client = UnixStream::connect(&rt, path.as_str())?;
     let Came::Link(mut link) = post.door.accept() else {
         return Err(Fail::from("no link"));
     };
-    let piece = [b'.'; 4096];
+    client.write_all(b"QUIT\n")?;
+    let mut piece = [b'.'; 4096];
+    assert!(rt; link.read(&mut piece) == Got::Bytes(5));
     let written = (0..1000).all(|_| link.write(&piece).is_ok());
     assert!(rt; !written);
     drop(client);
