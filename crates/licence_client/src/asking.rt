@@ -6,6 +6,10 @@ use clap::{Arg, ArgAction, ArgMatches, Command, Error};
 use client_talk::{Cause, Client, Pace};
 use std::alloc::{AllocError, Global};
 
+/// The commands, as the help lists them.
+const COMMANDS: &str =
+    "Commands:\n  ask REQUEST           ask one request, as \"CHECKOUT edit 1.0\", and print the reply\n  status FEATURE..      print a table of the seats of each feature\n  hold FEATURE VERSION  take a seat and keep it until standard input ends;\n                        with --wait, wait for one in the queue\n  reread NUMBER         let the rule set of this number hold\n  shutdown              end all sessions";
+
 /// Who a client is where the words don't say: what the environment tells, if it does.
 #[derive(Drop)]
 pub struct Defaults {
@@ -51,22 +55,32 @@ fn option_arg<'a>(alloc: Global, id: &'a str, value: &'a str, help: &'a str) -> 
         .help(help)
 }
 
-/// The command line that is read. It fails where memory ran out.
-pub fn client_command<'a>(alloc: Global) -> Result<Command<'a>, AllocError> {
-    let words = Arg::new(alloc, "WORD")
+/// The words behind the command.
+fn words_arg<'a>(alloc: Global) -> Arg<'a> {
+    Arg::new(alloc, "WORD")
         .num_args(0..)
         .action(ArgAction::Append)
-        .help("What the command takes");
+        .help("What the command takes")
+}
+
+/// An option without a value.
+fn flag_arg<'a>(alloc: Global, id: &'a str, help: &'a str) -> Arg<'a> {
+    Arg::new(alloc, id)
+        .long(id)
+        .action(ArgAction::SetTrue)
+        .help(help)
+}
+
+/// The command line that is read. It fails where memory ran out.
+pub fn client_command<'a>(alloc: Global) -> Result<Command<'a>, AllocError> {
     Command::new(alloc, "licence_client")
         .version("1")
         .about("Asks the licence daemon at a socket")
         .no_binary_name(true)
-        .after_help(
-            "Commands:\n  ask REQUEST           ask one request, as \"CHECKOUT edit 1.0\", and print the reply\n  status FEATURE..      print a table of the seats of each feature\n  hold FEATURE VERSION  take a seat and keep it until standard input ends;\n                        with --wait, wait for one in the queue\n  reread NUMBER         let the rule set of this number hold\n  shutdown              end all sessions",
-        )
+        .after_help(COMMANDS)
         .arg(word_arg(alloc, "SOCKET", "The path of the daemon's socket"))?
         .arg(word_arg(alloc, "COMMAND", "ask, status, hold, reread or shutdown"))?
-        .arg(words)?
+        .arg(words_arg(alloc))?
         .arg(option_arg(alloc, "user", "NAME", "Who asks; else USER, or nobody"))?
         .arg(option_arg(
             alloc,
@@ -92,12 +106,11 @@ pub fn client_command<'a>(alloc: Global) -> Result<Command<'a>, AllocError> {
             "SECONDS",
             "How many seconds hold lets pass between BEATs, 1 to 86400; else 300 with a seat and 10 without",
         ))?
-        .arg(
-            Arg::new(alloc, "wait")
-                .long("wait")
-                .action(ArgAction::SetTrue)
-                .help("hold waits in the queue where no seat is free"),
-        )
+        .arg(flag_arg(
+            alloc,
+            "wait",
+            "hold waits in the queue where no seat is free",
+        ))
 }
 
 /// The value of an option, or its default, or else this word.
