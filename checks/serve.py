@@ -132,6 +132,29 @@ def rule_sets(program):
         ends_well("rule sets", daemon)
 
 
+def wrong_lines(program):
+    """Each request with a word too few and too many, in small letters, with a tab, a DEL and a name of 65 bytes, and words of other kinds."""
+    requests = {
+        "HELLO": "ann h1 d1 p1", "CHECKOUT": "edit 1.0", "QUEUE": "edit 1.0", "CHECKIN": "edit", "BEAT": "edit", "LOOK": "edit",
+        "STATUS": "edit", "GLANCE": "edit", "REREAD": "1", "QUIT": "", "SHUTDOWN": "",
+    }
+    lines = [("CHECKOUT edit 1.x", 5), ("QUEUE edit 12345678901", 5), ("REREAD one", 7), ("REREAD 4294967296", 7), ("  ", 1), ("JUMP", 2)]
+    for verb, words in requests.items():
+        whole = f"{verb} {words}".rstrip()
+        lines += [(f"{whole} more", 3), (whole.lower(), 2), (f"{verb}\t{words}", 6), (f"{whole}\x7f", 6)]
+        if words:
+            lines.append((whole.rpartition(" ")[0], 3))
+        if words and verb != "REREAD":
+            lines.append((f"{verb} {'x' * 65}{words[words.find(' '):] if ' ' in words else ''}", 4))
+    with Daemon(program, EDIT.format(1)) as daemon:
+        daemon.is_up()
+        with daemon.session() as session:
+            for line, number in lines:
+                same(f"the line {line!r}", session.ask(line), f"BAD {number}")
+        same("so many wrong lines", len(lines), 67)
+        ends_well("wrong lines", daemon)
+
+
 def one_path(program):
     """A second daemon doesn't take a socket that is served; a socket that nobody serves any more is replaced; another file is left."""
     with Daemon(program, EDIT.format(1)) as first:
@@ -206,7 +229,7 @@ def main():
     program = os.path.abspath(sys.argv[1] if len(sys.argv) > 1 else "crates/licence_main/out/licence_main")
     if not os.access(program, os.X_OK):
         sys.exit(f"serve: {program} isn't built: rt ci builds it")
-    cases = (a_whole_session, the_log_and_the_tallies, seats_and_denials, more_clients_than_sessions, a_queue, rule_sets, one_path, others_are_not_held_up, many_are_killed)
+    cases = (a_whole_session, the_log_and_the_tallies, seats_and_denials, more_clients_than_sessions, a_queue, rule_sets, wrong_lines, one_path, others_are_not_held_up, many_are_killed)
     for case in cases:
         try:
             case(program)

@@ -2,6 +2,6 @@ mod advice;
 mod licences;
 mod options_files;
 mod plain_types;
-mod script_faults;
+mod routes;
 mod script_files;
 mod texts;
