@@ -252,148 +252,150 @@ fn play_all(rt: &(impl Abort + AllocGlobal + Wait), row: &Row<'_>) -> Result<(),
     panic!(rt; "a run ends without a failure")
 }
 
+/// Sessions of every kind.
+const SESSIONS: &[Row<'static>] = &[
+    // A glance shows the session's own entry.
+    Row {
+        dialogue: &[
+            HELLO,
+            (
+                b"GLANCE edit\n",
+                b"GLANCE FRONT 0 HELD 0 LINGERING 0 OPEN 0 OF 2 QUEUED 0\n",
+            ),
+            (b"CHECKOUT edit 1.0\n", b"GRANTED SEAT 0 OPEN #0\n"),
+            (
+                b"GLANCE edit\n",
+                b"GLANCE FRONT 1 HELD 1 LINGERING 0 OPEN 1 OF 2 QUEUED 0\n",
+            ),
+            (b"QUIT\n", b"BYE\n"),
+        ],
+        entries: &[(0, Kind::Checkout, OPEN), (0, Kind::Quit, Reply::Returned)],
+        ..PLAIN
+    },
+    // Each request goes to the pool where the session is holding; a Quiet looks at these, and all desks are reread.
+    Row {
+        licence: THREE_POOLS,
+        files: &[b"", b""],
+        dialogue: &[
+            HELLO,
+            (b"CHECKOUT edit 1.5\n", b"GRANTED SEAT 0 OPEN #0\n"),
+            (b"CHECKOUT edit 1.0\n", b"ALREADYHELD #1\n"),
+            (b"QUEUE draw 1.0\n", b"GRANTED SEAT 0 OPEN #0\n"),
+            (b"REREAD 1\n", b"REREAD 1\n"),
+            QUIET,
+            (b"CHECKOUT plot 1.0\n", b"UNKNOWN\n"),
+            (b"CHECKIN edit\n", b"RETURNED #4\n"),
+            (b"CHECKIN edit\n", b"NOTHELD #1\n"),
+            (
+                b"STATUS draw\n",
+                b"COUNTS HELD 1 LINGERING 0 OPEN 1 OF 1 OWN 1 #3\n",
+            ),
+            (b"QUIT\n", b"BYE\n"),
+        ],
+        entries: &[
+            (0, Kind::Reread(1), Reply::Reread(1)),
+            (0, Kind::Checkin, Reply::NotHeld),
+            (1, Kind::Checkout, OPEN),
+            (1, Kind::Checkout, Reply::AlreadyHeld),
+            (1, Kind::Reread(1), Reply::Reread(1)),
+            (1, Kind::Look, Reply::Held),
+            (1, Kind::Checkin, Reply::Returned),
+            (2, Kind::Queue, OPEN),
+            (2, Kind::Reread(1), Reply::Reread(1)),
+            (2, Kind::Look, Reply::Held),
+            (2, Kind::Count, ONE_OF_ONE),
+            (2, Kind::Quit, Reply::Returned),
+        ],
+        ..PLAIN
+    },
+    // A torn line ends it, and each desk where it is holding is given back.
+    Row {
+        licence: THREE_POOLS,
+        dialogue: &[
+            HELLO,
+            (b"CHECKOUT edit 1.0\n", b"GRANTED SEAT 0 OPEN #0\n"),
+            (b"CHECKOUT draw 1.0\n", b"GRANTED SEAT 0 OPEN #0\n"),
+            (b"BEAT edit", b""),
+        ],
+        end: SessionEnd::Torn(9),
+        entries: &[
+            (0, Kind::Checkout, OPEN),
+            (0, Kind::Quit, Reply::Returned),
+            (2, Kind::Checkout, OPEN),
+            (2, Kind::Quit, Reply::Returned),
+        ],
+        ..PLAIN
+    },
+    // A seat outlives the last day of its pool, and none is had after it.
+    Row {
+        licence: UNTIL_2026,
+        moments: &[NEW_YEAR - 1, NEW_YEAR - 1, NEW_YEAR],
+        dialogue: &[
+            HELLO,
+            (b"CHECKOUT edit 2.9\n", b"UNKNOWN\n"),
+            (b"CHECKOUT edit 2.1\n", b"GRANTED SEAT 0 OPEN #0\n"),
+            (b"CHECKOUT edit 2.1\n", b"ALREADYHELD #1\n"),
+            (b"CHECKIN edit\n", b"RETURNED #2\n"),
+            (b"CHECKOUT edit 2.1\n", b"EXPIRED 31-dec-2026\n"),
+            (b"CHECKIN edit\n", b"NOTHELD #3\n"),
+        ],
+        end: SessionEnd::End,
+        entries: &[
+            (0, Kind::Checkout, OPEN),
+            (0, Kind::Checkout, Reply::AlreadyHeld),
+            (0, Kind::Checkin, Reply::Returned),
+            (0, Kind::Checkin, Reply::NotHeld),
+        ],
+        ..PLAIN
+    },
+    // A line of the options file keeps a seat for ann, which lingers for her.
+    Row {
+        files: &[b"RESERVE 1 edit USER ann\nLINGER edit 60\n"],
+        dialogue: &[
+            HELLO,
+            (b"CHECKOUT edit 1.0\n", b"GRANTED SEAT 0 RESERVE 1 #0\n"),
+            (b"CHECKIN edit\n", b"LINGERING UNTIL 60 #1\n"),
+            (b"CHECKOUT edit 1.0\n", b"RETAKEN SEAT 0 RESERVE 1 #2\n"),
+            (b"QUIT\n", b"BYE\n"),
+        ],
+        entries: &[
+            (0, Kind::Checkout, Reply::Granted(Charge::Reserve(1))),
+            (0, Kind::Checkin, Reply::Lingering(60)),
+            (0, Kind::Checkout, Reply::Retaken(Charge::Reserve(1))),
+            (0, Kind::Quit, Reply::Lingering(60)),
+        ],
+        ..PLAIN
+    },
+    // Two files deny her, each in its way; she waits in vain, and leaves the queue.
+    Row {
+        licence: b"FEATURE edit acme 2.0 permanent 1 SIGN=00AB\n",
+        files: &[b"\nEXCLUDE edit USER ann\n", b"RESERVE 1 edit USER bob\n"],
+        dialogue: &[
+            HELLO,
+            (b"CHECKOUT edit 1.0\n", b"DENIED LINE 2 #0\n"),
+            (b"REREAD 1\n", b"REREAD 1\n"),
+            (b"REREAD 2\n", b"NORULES 2\n"),
+            (b"REREAD x\n", b"BAD 7\n"),
+            (b"CHECKOUT edit 1.0\n", b"NOSEAT TAKEN 0 OF 0 #2\n"),
+            (b"QUEUE edit 1.0\n", b"QUEUED 1 #3\n"),
+            (b"BEAT edit\n", b"QUEUED 1 #4\n"),
+        ],
+        end: SessionEnd::End,
+        entries: &[
+            (0, Kind::Checkout, Reply::Denied(2)),
+            (0, Kind::Reread(1), Reply::Reread(1)),
+            (0, Kind::Checkout, Reply::NoSeat(0, 0)),
+            (0, Kind::Queue, Reply::Queued(1)),
+            (0, Kind::Beat, Reply::Queued(1)),
+            (0, Kind::Quit, Reply::Unqueued),
+        ],
+        ..PLAIN
+    },
+];
+
 #[test]
 fn sessions_are_answered_at_their_desks(rt: HostRuntime) -> Result<(), Fail> {
-    let rows = [
-        // A glance shows the session's own entry.
-        Row {
-            dialogue: &[
-                HELLO,
-                (
-                    b"GLANCE edit\n",
-                    b"GLANCE FRONT 0 HELD 0 LINGERING 0 OPEN 0 OF 2 QUEUED 0\n",
-                ),
-                (b"CHECKOUT edit 1.0\n", b"GRANTED SEAT 0 OPEN #0\n"),
-                (
-                    b"GLANCE edit\n",
-                    b"GLANCE FRONT 1 HELD 1 LINGERING 0 OPEN 1 OF 2 QUEUED 0\n",
-                ),
-                (b"QUIT\n", b"BYE\n"),
-            ],
-            entries: &[(0, Kind::Checkout, OPEN), (0, Kind::Quit, Reply::Returned)],
-            ..PLAIN
-        },
-        // Each request goes to the pool where the session is holding; a Quiet looks at these, and all desks are reread.
-        Row {
-            licence: THREE_POOLS,
-            files: &[b"", b""],
-            dialogue: &[
-                HELLO,
-                (b"CHECKOUT edit 1.5\n", b"GRANTED SEAT 0 OPEN #0\n"),
-                (b"CHECKOUT edit 1.0\n", b"ALREADYHELD #1\n"),
-                (b"QUEUE draw 1.0\n", b"GRANTED SEAT 0 OPEN #0\n"),
-                (b"REREAD 1\n", b"REREAD 1\n"),
-                QUIET,
-                (b"CHECKOUT plot 1.0\n", b"UNKNOWN\n"),
-                (b"CHECKIN edit\n", b"RETURNED #4\n"),
-                (b"CHECKIN edit\n", b"NOTHELD #1\n"),
-                (
-                    b"STATUS draw\n",
-                    b"COUNTS HELD 1 LINGERING 0 OPEN 1 OF 1 OWN 1 #3\n",
-                ),
-                (b"QUIT\n", b"BYE\n"),
-            ],
-            entries: &[
-                (0, Kind::Reread(1), Reply::Reread(1)),
-                (0, Kind::Checkin, Reply::NotHeld),
-                (1, Kind::Checkout, OPEN),
-                (1, Kind::Checkout, Reply::AlreadyHeld),
-                (1, Kind::Reread(1), Reply::Reread(1)),
-                (1, Kind::Look, Reply::Held),
-                (1, Kind::Checkin, Reply::Returned),
-                (2, Kind::Queue, OPEN),
-                (2, Kind::Reread(1), Reply::Reread(1)),
-                (2, Kind::Look, Reply::Held),
-                (2, Kind::Count, ONE_OF_ONE),
-                (2, Kind::Quit, Reply::Returned),
-            ],
-            ..PLAIN
-        },
-        // A torn line ends it, and each desk where it is holding is given back.
-        Row {
-            licence: THREE_POOLS,
-            dialogue: &[
-                HELLO,
-                (b"CHECKOUT edit 1.0\n", b"GRANTED SEAT 0 OPEN #0\n"),
-                (b"CHECKOUT draw 1.0\n", b"GRANTED SEAT 0 OPEN #0\n"),
-                (b"BEAT edit", b""),
-            ],
-            end: SessionEnd::Torn(9),
-            entries: &[
-                (0, Kind::Checkout, OPEN),
-                (0, Kind::Quit, Reply::Returned),
-                (2, Kind::Checkout, OPEN),
-                (2, Kind::Quit, Reply::Returned),
-            ],
-            ..PLAIN
-        },
-        // A seat outlives the last day of its pool, and none is had after it.
-        Row {
-            licence: UNTIL_2026,
-            moments: &[NEW_YEAR - 1, NEW_YEAR - 1, NEW_YEAR],
-            dialogue: &[
-                HELLO,
-                (b"CHECKOUT edit 2.9\n", b"UNKNOWN\n"),
-                (b"CHECKOUT edit 2.1\n", b"GRANTED SEAT 0 OPEN #0\n"),
-                (b"CHECKOUT edit 2.1\n", b"ALREADYHELD #1\n"),
-                (b"CHECKIN edit\n", b"RETURNED #2\n"),
-                (b"CHECKOUT edit 2.1\n", b"EXPIRED 31-dec-2026\n"),
-                (b"CHECKIN edit\n", b"NOTHELD #3\n"),
-            ],
-            end: SessionEnd::End,
-            entries: &[
-                (0, Kind::Checkout, OPEN),
-                (0, Kind::Checkout, Reply::AlreadyHeld),
-                (0, Kind::Checkin, Reply::Returned),
-                (0, Kind::Checkin, Reply::NotHeld),
-            ],
-            ..PLAIN
-        },
-        // A line of the options file keeps a seat for ann, which lingers for her.
-        Row {
-            files: &[b"RESERVE 1 edit USER ann\nLINGER edit 60\n"],
-            dialogue: &[
-                HELLO,
-                (b"CHECKOUT edit 1.0\n", b"GRANTED SEAT 0 RESERVE 1 #0\n"),
-                (b"CHECKIN edit\n", b"LINGERING UNTIL 60 #1\n"),
-                (b"CHECKOUT edit 1.0\n", b"RETAKEN SEAT 0 RESERVE 1 #2\n"),
-                (b"QUIT\n", b"BYE\n"),
-            ],
-            entries: &[
-                (0, Kind::Checkout, Reply::Granted(Charge::Reserve(1))),
-                (0, Kind::Checkin, Reply::Lingering(60)),
-                (0, Kind::Checkout, Reply::Retaken(Charge::Reserve(1))),
-                (0, Kind::Quit, Reply::Lingering(60)),
-            ],
-            ..PLAIN
-        },
-        // Two files deny her, each in its way; she waits in vain, and leaves the queue.
-        Row {
-            licence: b"FEATURE edit acme 2.0 permanent 1 SIGN=00AB\n",
-            files: &[b"\nEXCLUDE edit USER ann\n", b"RESERVE 1 edit USER bob\n"],
-            dialogue: &[
-                HELLO,
-                (b"CHECKOUT edit 1.0\n", b"DENIED LINE 2 #0\n"),
-                (b"REREAD 1\n", b"REREAD 1\n"),
-                (b"REREAD 2\n", b"NORULES 2\n"),
-                (b"REREAD x\n", b"BAD 7\n"),
-                (b"CHECKOUT edit 1.0\n", b"NOSEAT TAKEN 0 OF 0 #2\n"),
-                (b"QUEUE edit 1.0\n", b"QUEUED 1 #3\n"),
-                (b"BEAT edit\n", b"QUEUED 1 #4\n"),
-            ],
-            end: SessionEnd::End,
-            entries: &[
-                (0, Kind::Checkout, Reply::Denied(2)),
-                (0, Kind::Reread(1), Reply::Reread(1)),
-                (0, Kind::Checkout, Reply::NoSeat(0, 0)),
-                (0, Kind::Queue, Reply::Queued(1)),
-                (0, Kind::Beat, Reply::Queued(1)),
-                (0, Kind::Quit, Reply::Unqueued),
-            ],
-            ..PLAIN
-        },
-    ];
-    for row in &rows {
+    for row in SESSIONS {
         play_all(&rt, row)?;
     }
     Ok(())

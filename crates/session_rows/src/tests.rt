@@ -160,110 +160,112 @@ fn play_all(rt: &(impl Abort + AllocGlobal + Wait), row: &Row<'_>) -> Result<(),
     Ok(())
 }
 
+/// Sessions of every kind.
+const SESSIONS: &[Row<'static>] = &[
+    // A torn line ends a session.
+    Row {
+        stream: b"HELLO ann h1 d1 p1\nCHECKOUT edit 1.0\nBEAT edit",
+        text: b"WELCOME 0\nGRANTED SEAT 0 OPEN #0\n",
+        end: SessionEnd::Torn(9),
+        entries: &[(Kind::Checkout, OPEN, 0), (Kind::Quit, Reply::Returned, 0)],
+        ..PLAIN
+    },
+    // A whole session.
+    Row {
+        stream: b"LOOK edit\nHELLO ann h1 d1 p1\nHELLO x x x x\nCHECKOUT edit 1.0\nSTATUS edit\nJUMP\nCHECKIN edit\nQUIT\nLOOK edit\n",
+        text: b"NOHELLO\nWELCOME 0\nGREETED\nGRANTED SEAT 0 OPEN #0\nCOUNTS HELD 1 LINGERING 0 OPEN 1 OF 2 OWN 1 #1\nBAD 2\nRETURNED #2\nBYE\n",
+        end: SessionEnd::Quit,
+        entries: &[
+            (Kind::Checkout, OPEN, 0),
+            (Kind::Count, ONE_OF_TWO, 0),
+            (Kind::Checkin, Reply::Returned, 0),
+        ],
+        ..PLAIN
+    },
+    // The bell stops a quiet session.
+    Row {
+        stream: b"HELLO ann h1 d1 p1\nCHECKOUT edit 1.0\n~~LOOK edit\n",
+        answers: &[false, true],
+        text: b"WELCOME 0\nGRANTED SEAT 0 OPEN #0\n",
+        end: SessionEnd::Stopped,
+        entries: &[
+            (Kind::Checkout, OPEN, 0),
+            (Kind::Look, Reply::Held, 0),
+            (Kind::Quit, Reply::Returned, 0),
+        ],
+        ..PLAIN
+    },
+    // A SHUTDOWN rings the bell.
+    Row {
+        stream: b"HELLO ann h1 d1 p1\nCHECKOUT edit 1.0\nSHUTDOWN\nLOOK edit\n",
+        text: b"WELCOME 0\nGRANTED SEAT 0 OPEN #0\nSTOPPING\n",
+        end: SessionEnd::Down,
+        entries: &[(Kind::Checkout, OPEN, 0), (Kind::Quit, Reply::Returned, 0)],
+        ..PLAIN
+    },
+    // Rule sets are reread.
+    Row {
+        files: &[b"", b""],
+        count: 1,
+        stream: b"HELLO ann h1 d1 p1\nREREAD 1\nREREAD 2\nREREAD x\nQUIT\n",
+        text: b"WELCOME 0\nREREAD 1\nNORULES 2\nBAD 7\nBYE\n",
+        end: SessionEnd::Quit,
+        entries: &[(Kind::Reread(1), Reply::Reread(1), 0)],
+        ..PLAIN
+    },
+    // A glance makes no entry.
+    Row {
+        stream: b"GLANCE edit\nHELLO ann h1 d1 p1\nGLANCE edit\nGLANCE draw\nQUIT\n",
+        text: b"NOHELLO\nWELCOME 0\nGLANCE FRONT 0 HELD 0 LINGERING 0 OPEN 0 OF 2 QUEUED 0\nUNKNOWN\nBYE\n",
+        end: SessionEnd::Quit,
+        ..PLAIN
+    },
+    // A quiet session times out.
+    Row {
+        files: &[b"TIMEOUT edit 900\n"],
+        count: 1,
+        stream: b"HELLO ann h1 d1 p1\nCHECKOUT edit 1.0\n~~~BEAT edit\n",
+        moments: &[0, 900, 900],
+        text: b"WELCOME 0\nGRANTED SEAT 0 OPEN #0\nNOTHELD #2\n",
+        entries: &[
+            (Kind::Checkout, OPEN, 0),
+            (Kind::Look, Reply::NotHeld, 900),
+            (Kind::Beat, Reply::NotHeld, 900),
+        ],
+        ..PLAIN
+    },
+    // The latest moment is cut.
+    Row {
+        files: &[b"LINGER edit 60\n"],
+        stream: b"HELLO ann h1 d1 p1\nCHECKOUT edit 1.0\nCHECKIN edit\n",
+        moments: &[u64::MAX],
+        text: b"WELCOME 0\nGRANTED SEAT 0 OPEN #0\nLINGERING UNTIL 1099511627835 #1\n",
+        entries: &[
+            (Kind::Checkout, OPEN, LATEST),
+            (Kind::Checkin, Reply::Lingering(LATEST + 60), LATEST),
+        ],
+        ..PLAIN
+    },
+    // A session waits, and leaves the queue.
+    Row {
+        count: 1,
+        taken: true,
+        stream: b"HELLO ann h1 d1 p1\nQUEUE edit 1.0\nBEAT edit\nQUIT\n",
+        text: b"WELCOME 0\nQUEUED 1 #1\nQUEUED 1 #2\nBYE\n",
+        end: SessionEnd::Quit,
+        entries: &[
+            (Kind::Checkout, OPEN, 0),
+            (Kind::Queue, Reply::Queued(1), 0),
+            (Kind::Beat, Reply::Queued(1), 0),
+            (Kind::Quit, Reply::Unqueued, 0),
+        ],
+        ..PLAIN
+    },
+];
+
 #[test]
 fn sessions_are_answered_in_order(rt: HostRuntime) -> Result<(), Fail> {
-    const ROWS: &[Row<'static>] = &[
-        // A torn line ends a session.
-        Row {
-            stream: b"HELLO ann h1 d1 p1\nCHECKOUT edit 1.0\nBEAT edit",
-            text: b"WELCOME 0\nGRANTED SEAT 0 OPEN #0\n",
-            end: SessionEnd::Torn(9),
-            entries: &[(Kind::Checkout, OPEN, 0), (Kind::Quit, Reply::Returned, 0)],
-            ..PLAIN
-        },
-        // A whole session.
-        Row {
-            stream: b"LOOK edit\nHELLO ann h1 d1 p1\nHELLO x x x x\nCHECKOUT edit 1.0\nSTATUS edit\nJUMP\nCHECKIN edit\nQUIT\nLOOK edit\n",
-            text: b"NOHELLO\nWELCOME 0\nGREETED\nGRANTED SEAT 0 OPEN #0\nCOUNTS HELD 1 LINGERING 0 OPEN 1 OF 2 OWN 1 #1\nBAD 2\nRETURNED #2\nBYE\n",
-            end: SessionEnd::Quit,
-            entries: &[
-                (Kind::Checkout, OPEN, 0),
-                (Kind::Count, ONE_OF_TWO, 0),
-                (Kind::Checkin, Reply::Returned, 0),
-            ],
-            ..PLAIN
-        },
-        // The bell stops a quiet session.
-        Row {
-            stream: b"HELLO ann h1 d1 p1\nCHECKOUT edit 1.0\n~~LOOK edit\n",
-            answers: &[false, true],
-            text: b"WELCOME 0\nGRANTED SEAT 0 OPEN #0\n",
-            end: SessionEnd::Stopped,
-            entries: &[
-                (Kind::Checkout, OPEN, 0),
-                (Kind::Look, Reply::Held, 0),
-                (Kind::Quit, Reply::Returned, 0),
-            ],
-            ..PLAIN
-        },
-        // A SHUTDOWN rings the bell.
-        Row {
-            stream: b"HELLO ann h1 d1 p1\nCHECKOUT edit 1.0\nSHUTDOWN\nLOOK edit\n",
-            text: b"WELCOME 0\nGRANTED SEAT 0 OPEN #0\nSTOPPING\n",
-            end: SessionEnd::Down,
-            entries: &[(Kind::Checkout, OPEN, 0), (Kind::Quit, Reply::Returned, 0)],
-            ..PLAIN
-        },
-        // Rule sets are reread.
-        Row {
-            files: &[b"", b""],
-            count: 1,
-            stream: b"HELLO ann h1 d1 p1\nREREAD 1\nREREAD 2\nREREAD x\nQUIT\n",
-            text: b"WELCOME 0\nREREAD 1\nNORULES 2\nBAD 7\nBYE\n",
-            end: SessionEnd::Quit,
-            entries: &[(Kind::Reread(1), Reply::Reread(1), 0)],
-            ..PLAIN
-        },
-        // A glance makes no entry.
-        Row {
-            stream: b"GLANCE edit\nHELLO ann h1 d1 p1\nGLANCE edit\nGLANCE draw\nQUIT\n",
-            text: b"NOHELLO\nWELCOME 0\nGLANCE FRONT 0 HELD 0 LINGERING 0 OPEN 0 OF 2 QUEUED 0\nUNKNOWN\nBYE\n",
-            end: SessionEnd::Quit,
-            ..PLAIN
-        },
-        // A quiet session times out.
-        Row {
-            files: &[b"TIMEOUT edit 900\n"],
-            count: 1,
-            stream: b"HELLO ann h1 d1 p1\nCHECKOUT edit 1.0\n~~~BEAT edit\n",
-            moments: &[0, 900, 900],
-            text: b"WELCOME 0\nGRANTED SEAT 0 OPEN #0\nNOTHELD #2\n",
-            entries: &[
-                (Kind::Checkout, OPEN, 0),
-                (Kind::Look, Reply::NotHeld, 900),
-                (Kind::Beat, Reply::NotHeld, 900),
-            ],
-            ..PLAIN
-        },
-        // The latest moment is cut.
-        Row {
-            files: &[b"LINGER edit 60\n"],
-            stream: b"HELLO ann h1 d1 p1\nCHECKOUT edit 1.0\nCHECKIN edit\n",
-            moments: &[u64::MAX],
-            text: b"WELCOME 0\nGRANTED SEAT 0 OPEN #0\nLINGERING UNTIL 1099511627835 #1\n",
-            entries: &[
-                (Kind::Checkout, OPEN, LATEST),
-                (Kind::Checkin, Reply::Lingering(LATEST + 60), LATEST),
-            ],
-            ..PLAIN
-        },
-        // A session waits, and leaves the queue.
-        Row {
-            count: 1,
-            taken: true,
-            stream: b"HELLO ann h1 d1 p1\nQUEUE edit 1.0\nBEAT edit\nQUIT\n",
-            text: b"WELCOME 0\nQUEUED 1 #1\nQUEUED 1 #2\nBYE\n",
-            end: SessionEnd::Quit,
-            entries: &[
-                (Kind::Checkout, OPEN, 0),
-                (Kind::Queue, Reply::Queued(1), 0),
-                (Kind::Beat, Reply::Queued(1), 0),
-                (Kind::Quit, Reply::Unqueued, 0),
-            ],
-            ..PLAIN
-        },
-    ];
-    for row in ROWS {
+    for row in SESSIONS {
         play_all(&rt, row)?;
     }
     Ok(())

@@ -1,4 +1,4 @@
-ghost use Rattle.std.specs.Prelude.{◌≡◌};
+ghost use Rattle.std.specs.Prelude.{◌≡◌, ◌^◌, ◌<◌, length};
 
 use audit_log::{
     LogPush, LogTake, Logged, is_summary, log_queue, read_entry, write_entry, write_log,
@@ -8,6 +8,7 @@ use lic_text::lines;
 use lic_types::{Client, Name};
 use options_machine::{Charge, Entry, Kind, Reply, Request};
 use script_words::{ScriptFault, ScriptWord};
+use std::alloc::Global;
 use std::sync::Wait;
 use std::test::Fail;
 use std::thread::{Threads, join};
@@ -126,78 +127,102 @@ fn one_thread_takes_while_another_pushes(rt: HostRuntime) -> Result<(), Fail> {
     Ok(())
 }
 
+/// The numbers of a desk.
+const COUNTS: Reply = Reply::Counts {
+    held: 1,
+    lingering: 2,
+    taken: 3,
+    free: 4,
+    own: false,
+    queued: false,
+};
+
+/// The numbers of a desk whose seat the party has.
+const OWN_COUNTS: Reply = Reply::Counts {
+    held: 1,
+    lingering: 2,
+    taken: 3,
+    free: 4,
+    own: true,
+    queued: false,
+};
+
+/// The numbers of a desk in whose queue the party is.
+const QUEUED_COUNTS: Reply = Reply::Counts {
+    held: 1,
+    lingering: 2,
+    taken: 3,
+    free: 4,
+    own: false,
+    queued: true,
+};
+
+/// What was asked and answered, each with the words of it.
+const ENTRIES: &[(Kind, Reply, &[u8])] = &[
+    (
+        Kind::Checkout,
+        Reply::Granted(Charge::Open),
+        b"CHECKOUT GRANTED OPEN",
+    ),
+    (
+        Kind::Checkout,
+        Reply::Granted(Charge::Reserve(u32::MAX)),
+        b"CHECKOUT GRANTED RESERVE 4294967295",
+    ),
+    (
+        Kind::Queue,
+        Reply::Retaken(Charge::Open),
+        b"QUEUE RETAKEN OPEN",
+    ),
+    (
+        Kind::Queue,
+        Reply::Retaken(Charge::Reserve(9)),
+        b"QUEUE RETAKEN RESERVE 9",
+    ),
+    (
+        Kind::Checkout,
+        Reply::Denied(12),
+        b"CHECKOUT DENIED LINE 12",
+    ),
+    (
+        Kind::Checkout,
+        Reply::NoSeat(2, 2),
+        b"CHECKOUT NOSEAT TAKEN 2 OF 2",
+    ),
+    (Kind::Checkout, Reply::AlreadyHeld, b"CHECKOUT ALREADYHELD"),
+    (Kind::Checkin, Reply::Returned, b"CHECKIN RETURNED"),
+    (
+        Kind::Quit,
+        Reply::Lingering(u64::MAX),
+        b"QUIT LINGERING UNTIL 18446744073709551615",
+    ),
+    (Kind::Look, Reply::NotHeld, b"LOOK NOTHELD"),
+    (Kind::Beat, Reply::Beaten, b"BEAT BEATEN"),
+    (Kind::Look, Reply::Held, b"LOOK HELD"),
+    (
+        Kind::Count,
+        COUNTS,
+        b"COUNT COUNTS HELD 1 LINGERING 2 OPEN 3 OF 4 OWN 0",
+    ),
+    (
+        Kind::Count,
+        OWN_COUNTS,
+        b"COUNT COUNTS HELD 1 LINGERING 2 OPEN 3 OF 4 OWN 1",
+    ),
+    (
+        Kind::Count,
+        QUEUED_COUNTS,
+        b"COUNT COUNTS HELD 1 LINGERING 2 OPEN 3 OF 4 OWN 2",
+    ),
+    (Kind::Queue, Reply::Queued(0), b"QUEUE QUEUED 0"),
+    (Kind::Quit, Reply::Unqueued, b"QUIT UNQUEUED"),
+    (Kind::Reread(1), Reply::Reread(1), b"REREAD REREAD 1"),
+];
+
 /// Each reply with its words, of an entry at place 7 of pool 3.
 #[test]
 fn entries_are_written_and_read_back(rt: HostRuntime) -> Result<(), Fail> {
-    let counts = |own: bool, queued: bool| Reply::Counts {
-        held: 1,
-        lingering: 2,
-        taken: 3,
-        free: 4,
-        own,
-        queued,
-    };
-    let rows: [(Kind, Reply, &[u8]); 18] = [
-        (
-            Kind::Checkout,
-            Reply::Granted(Charge::Open),
-            b"CHECKOUT GRANTED OPEN",
-        ),
-        (
-            Kind::Checkout,
-            Reply::Granted(Charge::Reserve(u32::MAX)),
-            b"CHECKOUT GRANTED RESERVE 4294967295",
-        ),
-        (
-            Kind::Queue,
-            Reply::Retaken(Charge::Open),
-            b"QUEUE RETAKEN OPEN",
-        ),
-        (
-            Kind::Queue,
-            Reply::Retaken(Charge::Reserve(9)),
-            b"QUEUE RETAKEN RESERVE 9",
-        ),
-        (
-            Kind::Checkout,
-            Reply::Denied(12),
-            b"CHECKOUT DENIED LINE 12",
-        ),
-        (
-            Kind::Checkout,
-            Reply::NoSeat(2, 2),
-            b"CHECKOUT NOSEAT TAKEN 2 OF 2",
-        ),
-        (Kind::Checkout, Reply::AlreadyHeld, b"CHECKOUT ALREADYHELD"),
-        (Kind::Checkin, Reply::Returned, b"CHECKIN RETURNED"),
-        (
-            Kind::Quit,
-            Reply::Lingering(u64::MAX),
-            b"QUIT LINGERING UNTIL 18446744073709551615",
-        ),
-        (Kind::Look, Reply::NotHeld, b"LOOK NOTHELD"),
-        (Kind::Beat, Reply::Beaten, b"BEAT BEATEN"),
-        (Kind::Look, Reply::Held, b"LOOK HELD"),
-        (
-            Kind::Count,
-            counts(false, false),
-            b"COUNT COUNTS HELD 1 LINGERING 2 OPEN 3 OF 4 OWN 0",
-        ),
-        (
-            Kind::Count,
-            counts(true, false),
-            b"COUNT COUNTS HELD 1 LINGERING 2 OPEN 3 OF 4 OWN 1",
-        ),
-        (
-            Kind::Count,
-            counts(false, true),
-            b"COUNT COUNTS HELD 1 LINGERING 2 OPEN 3 OF 4 OWN 2",
-        ),
-        (Kind::Queue, Reply::Queued(0), b"QUEUE QUEUED 0"),
-        (Kind::Quit, Reply::Unqueued, b"QUIT UNQUEUED"),
-        (Kind::Reread(1), Reply::Reread(1), b"REREAD REREAD 1"),
-    ];
-    for (kind, reply, words) in rows {
+    for &(kind, reply, words) in ENTRIES {
         let entry = entry_at(255, (1 << 40) - 1, kind, reply)?;
         let mut room = [0u8; 640];
         let len = write_entry(3, 7, &entry, &mut room);
@@ -222,123 +247,116 @@ fn entries_are_written_and_read_back(rt: HostRuntime) -> Result<(), Fail> {
     Ok(())
 }
 
+/// Of each line of a log in order, why it is no entry, or None where it is one.
+fn faults_of(alloc: Global, log: &[u8]) -> Result<Vec<Option<ScriptFault>>, Fail>
+    requires { length log.now < 2 ^ 32 }
+{
+    let mut faults = Vec::new(alloc);
+    for line in lines(log) {
+        faults.push(read_entry(&line?).err())?;
+    }
+    Ok(faults)
+}
+
+/// Lines that are no entries, each with its fault.
+const FAULTS: &[(&[u8], ScriptWord)] = &[
+    (b"LOG 0 ENTRIES 2 WHOLE", ScriptWord::UnknownWord),
+    (
+        b"entry 0 #0 0 0 a h d p LOOK NOTHELD",
+        ScriptWord::UnknownWord,
+    ),
+    (b"ENTRY x #0 0 0 a h d p LOOK", ScriptWord::WordCount),
+    (
+        b"ENTRY 4294967296 0 0 0 a h d p LOOK NOTHELD",
+        ScriptWord::BadNumber,
+    ),
+    (b"ENTRY 0 0 0 0 a h d p LOOK NOTHELD", ScriptWord::BadNumber),
+    (b"ENTRY 0 # 0 0 a h d p LOOK NOTHELD", ScriptWord::BadNumber),
+    (
+        b"ENTRY 0 #0 1099511627776 0 a h d p LOOK NOTHELD",
+        ScriptWord::BadNumber,
+    ),
+    (
+        b"ENTRY 0 #0 0 256 a h d p LOOK NOTHELD",
+        ScriptWord::BadNumber,
+    ),
+    (
+        b"ENTRY 0 #0 0 0 a\x01 h d p LOOK NOTHELD",
+        ScriptWord::BadName,
+    ),
+    (
+        b"ENTRY 0 #0 0 0 a h d\x01 p STATUS NOTHELD",
+        ScriptWord::BadName,
+    ),
+    (
+        b"ENTRY 0 #0 0 0 a h d p STATUS NOTHELD",
+        ScriptWord::UnknownWord,
+    ),
+    (
+        b"ENTRY 0 #0 0 0 a h d p LOOK notheld",
+        ScriptWord::UnknownWord,
+    ),
+    (
+        b"ENTRY 0 #0 0 0 a h d p LOOK NOTHELD NOTHELD",
+        ScriptWord::UnknownWord,
+    ),
+    (
+        b"ENTRY 0 #0 0 0 a h d p CHECKOUT GRANTED",
+        ScriptWord::UnknownWord,
+    ),
+    (
+        b"ENTRY 0 #0 0 0 a h d p CHECKOUT GRANTED RESERVE 01",
+        ScriptWord::UnknownWord,
+    ),
+    (
+        b"ENTRY 0 #0 0 0 a h d p CHECKOUT GRANTED RESERVE 4294967296",
+        ScriptWord::UnknownWord,
+    ),
+    (
+        b"ENTRY 0 #0 0 0 a h d p CHECKOUT GRANTED OPEN OPEN",
+        ScriptWord::UnknownWord,
+    ),
+    (
+        b"ENTRY 0 #0 0 0 a h d p CHECKOUT DENIED 1",
+        ScriptWord::UnknownWord,
+    ),
+    (
+        b"ENTRY 0 #0 0 0 a h d p CHECKOUT NOSEAT TAKEN 1 OF",
+        ScriptWord::UnknownWord,
+    ),
+    (
+        b"ENTRY 0 #0 0 0 a h d p COUNT COUNTS HELD 1 LINGERING 2 OPEN 3 OF 4 OWN 3",
+        ScriptWord::UnknownWord,
+    ),
+    (
+        b"ENTRY 0 #0 0 0 a h d p QUIT LINGERING UNTIL 18446744073709551616",
+        ScriptWord::UnknownWord,
+    ),
+    (
+        b"ENTRY 0 #0 0 0 a h d p QUEUE QUEUED +1",
+        ScriptWord::UnknownWord,
+    ),
+    (
+        b"ENTRY 0 #0 0 0 a h d p REREAD NOTHELD",
+        ScriptWord::UnknownWord,
+    ),
+    (
+        b"ENTRY 0 #0 0 0 a h d p REREAD REREAD",
+        ScriptWord::UnknownWord,
+    ),
+];
+
 /// Each fault on the first line of a log, and behind a good line.
 #[test]
 fn lines_at_fault_are_named(rt: HostRuntime) -> Result<(), Fail> {
-    let rows: [(&[u8], ScriptWord); 24] = [
-        (b"LOG 0 ENTRIES 2 WHOLE", ScriptWord::UnknownWord),
-        (
-            b"entry 0 #0 0 0 a h d p LOOK NOTHELD",
-            ScriptWord::UnknownWord,
-        ),
-        (b"ENTRY x #0 0 0 a h d p LOOK", ScriptWord::WordCount),
-        (
-            b"ENTRY 4294967296 0 0 0 a h d p LOOK NOTHELD",
-            ScriptWord::BadNumber,
-        ),
-        (b"ENTRY 0 0 0 0 a h d p LOOK NOTHELD", ScriptWord::BadNumber),
-        (b"ENTRY 0 # 0 0 a h d p LOOK NOTHELD", ScriptWord::BadNumber),
-        (
-            b"ENTRY 0 #0 1099511627776 0 a h d p LOOK NOTHELD",
-            ScriptWord::BadNumber,
-        ),
-        (
-            b"ENTRY 0 #0 0 256 a h d p LOOK NOTHELD",
-            ScriptWord::BadNumber,
-        ),
-        (
-            b"ENTRY 0 #0 0 0 a\x01 h d p LOOK NOTHELD",
-            ScriptWord::BadName,
-        ),
-        (
-            b"ENTRY 0 #0 0 0 a h d\x01 p STATUS NOTHELD",
-            ScriptWord::BadName,
-        ),
-        (
-            b"ENTRY 0 #0 0 0 a h d p STATUS NOTHELD",
-            ScriptWord::UnknownWord,
-        ),
-        (
-            b"ENTRY 0 #0 0 0 a h d p LOOK notheld",
-            ScriptWord::UnknownWord,
-        ),
-        (
-            b"ENTRY 0 #0 0 0 a h d p LOOK NOTHELD NOTHELD",
-            ScriptWord::UnknownWord,
-        ),
-        (
-            b"ENTRY 0 #0 0 0 a h d p CHECKOUT GRANTED",
-            ScriptWord::UnknownWord,
-        ),
-        (
-            b"ENTRY 0 #0 0 0 a h d p CHECKOUT GRANTED RESERVE 01",
-            ScriptWord::UnknownWord,
-        ),
-        (
-            b"ENTRY 0 #0 0 0 a h d p CHECKOUT GRANTED RESERVE 4294967296",
-            ScriptWord::UnknownWord,
-        ),
-        (
-            b"ENTRY 0 #0 0 0 a h d p CHECKOUT GRANTED OPEN OPEN",
-            ScriptWord::UnknownWord,
-        ),
-        (
-            b"ENTRY 0 #0 0 0 a h d p CHECKOUT DENIED 1",
-            ScriptWord::UnknownWord,
-        ),
-        (
-            b"ENTRY 0 #0 0 0 a h d p CHECKOUT NOSEAT TAKEN 1 OF",
-            ScriptWord::UnknownWord,
-        ),
-        (
-            b"ENTRY 0 #0 0 0 a h d p COUNT COUNTS HELD 1 LINGERING 2 OPEN 3 OF 4 OWN 3",
-            ScriptWord::UnknownWord,
-        ),
-        (
-            b"ENTRY 0 #0 0 0 a h d p QUIT LINGERING UNTIL 18446744073709551616",
-            ScriptWord::UnknownWord,
-        ),
-        (
-            b"ENTRY 0 #0 0 0 a h d p QUEUE QUEUED +1",
-            ScriptWord::UnknownWord,
-        ),
-        (
-            b"ENTRY 0 #0 0 0 a h d p REREAD NOTHELD",
-            ScriptWord::UnknownWord,
-        ),
-        (
-            b"ENTRY 0 #0 0 0 a h d p REREAD REREAD",
-            ScriptWord::UnknownWord,
-        ),
-    ];
-    for (text, fault) in rows {
-        let found = lines(text).next();
-        assert!(rt; matches!(found, Some(Ok(_))));
-        if let Some(Ok(line)) = found {
-            assert_eq!(rt;
-                read_entry(&line).err(),
-                Some(ScriptFault { line: 1, fault })
-            );
-        }
-        let mut log = Vec::new(rt.alloc());
-        log.extend_from_slice(b"ENTRY 0 #0 0 0 a h d p LOOK NOTHELD\n")?;
+    for &(text, fault) in FAULTS {
+        let mut log = Vec::from_slice(rt.alloc(), b"ENTRY 0 #0 0 0 a h d p LOOK NOTHELD\n")?;
         log.extend_from_slice(text)?;
-        let log = log.as_slice();
-        assert!(rt; log.len() < 1000);
-        let mut both = lines(log);
-        let first = both.next();
-        assert!(rt; matches!(first, Some(Ok(_))));
-        if let Some(Ok(line)) = first {
-            assert!(rt; read_entry(&line).is_ok());
-        }
-        let second = both.next();
-        assert!(rt; matches!(second, Some(Ok(_))));
-        if let Some(Ok(line)) = second {
-            assert_eq!(rt;
-                read_entry(&line).err(),
-                Some(ScriptFault { line: 2, fault })
-            );
-        }
+        assert!(rt; text.len() < 1000 && log.len() < 1000);
+        let alone = faults_of(rt.alloc(), text)?;
+        assert!(rt; alone.as_slice() == [Some(ScriptFault { line: 1, fault })].as_slice());
+        let behind = faults_of(rt.alloc(), log.as_slice())?;
+        assert!(rt; behind.as_slice() == [None, Some(ScriptFault { line: 2, fault })].as_slice());
     }
     Ok(())
 }

@@ -26,22 +26,24 @@ const ANN: Client<'static> = Client {
     project: "p1",
 };
 
+/// What the client of a seat that is waited for hears, line by line, with a `~` for a Quiet.
+const HEARD: &[&str] = &[
+    "WELCOME 3",
+    "QUEUED 2 #4",
+    "~",
+    "QUEUED 1 #5",
+    "~",
+    "GRANTED SEAT 0 OPEN #7",
+    "~",
+    "~",
+    "BEATEN #8",
+    "RETURNED #9",
+];
+
 /// While it waits a BEAT is due every 10 seconds, from the moment 100 on, and with the seat every 20 seconds, from 120
 /// on.
 #[test]
 fn a_seat_is_waited_for_and_kept_by_the_clock(rt: HostRuntime) -> Result<(), Fail> {
-    const HEARD: &[&str] = &[
-        "WELCOME 3",
-        "QUEUED 2 #4",
-        "~",
-        "QUEUED 1 #5",
-        "~",
-        "GRANTED SEAT 0 OPEN #7",
-        "~",
-        "~",
-        "BEATEN #8",
-        "RETURNED #9",
-    ];
     const MOMENTS: &[u64] = &[100, 109, 110, 119, 120, 120, 121, 139, 140];
     const ANSWERS: &[bool] = &[false, false, false, false, false, false, false, true];
     let talk = Talk::make(rt.alloc(), 64, 512)?;

@@ -22,19 +22,21 @@ fn summed(rt: &(impl Abort + AllocGlobal), log: &[u8]) -> Result<Option<Sums>, F
     }
 }
 
+/// A log of two pools.
+const TWO_POOLS: &[u8] = b"# two pools\n\
+    ENTRY 0 #0 0 0 cy h3 d3 p3 CHECKOUT GRANTED OPEN\n\
+    ENTRY 1 #0 7 1 ann h1 d1 p1 CHECKOUT GRANTED OPEN\n\
+    ENTRY 0 #1 5 1 ann h1 d1 p1 QUEUE GRANTED OPEN\n\
+    ENTRY 0 #2 5 2 bob h2 d2 p2 CHECKOUT NOSEAT TAKEN 2 OF 2\n\
+    LOG 0 ENTRIES 3 WHOLE\n\
+    ENTRY 1 #1 9 0 ann h1 d1 p1 REREAD REREAD 1\n\
+    LOG 1 ENTRIES 2 WHOLE\n\
+    TALLY 0 CALLS 3 GRANTS 2 CARD USES 2\n";
+
 /// The entries of both pools go by their own places, and lines that sum up a log are passed over. A lingering seat that
 /// is taken again is a grant.
 #[test]
 fn a_run_is_summed(rt: HostRuntime) -> Result<(), Fail> {
-    const LOG: &[u8] = b"# two pools\n\
-        ENTRY 0 #0 0 0 cy h3 d3 p3 CHECKOUT GRANTED OPEN\n\
-        ENTRY 1 #0 7 1 ann h1 d1 p1 CHECKOUT GRANTED OPEN\n\
-        ENTRY 0 #1 5 1 ann h1 d1 p1 QUEUE GRANTED OPEN\n\
-        ENTRY 0 #2 5 2 bob h2 d2 p2 CHECKOUT NOSEAT TAKEN 2 OF 2\n\
-        LOG 0 ENTRIES 3 WHOLE\n\
-        ENTRY 1 #1 9 0 ann h1 d1 p1 REREAD REREAD 1\n\
-        LOG 1 ENTRIES 2 WHOLE\n\
-        TALLY 0 CALLS 3 GRANTS 2 CARD USES 2\n";
     const DAYS: &[DaySum] = &[
         DaySum {
             pool: 0,
@@ -55,7 +57,7 @@ fn a_run_is_summed(rt: HostRuntime) -> Result<(), Fail> {
             grants: 1,
         },
     ];
-    let Some(sums) = summed(&rt, LOG)? else {
+    let Some(sums) = summed(&rt, TWO_POOLS)? else {
         assert!(rt; false);
         return Ok(());
     };
