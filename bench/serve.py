@@ -12,27 +12,26 @@ from daemon import Daemon
 CLIENTS = (1, 16, 256)
 RUNS = 5
 MILLISECONDS = 2000
-DELAYS = (0, 100, 200, 300, 400, 600, 800)
 PERMANENT = "FEATURE f{} acme 1.0 permanent 300 SIGN=00AB\n"
 TICKS = os.sysconf("SC_CLK_TCK")
 
 
-def ask(peers, path, clients, pools=1, milliseconds=MILLISECONDS):
+def ask(peers, path, clients, pools=1):
     """Requests a second, and three percentiles of the time to an answer in microseconds."""
-    words = [f"{peers}/ask", path, str(clients), str(milliseconds), str(pools)]
+    words = [f"{peers}/ask", path, str(clients), str(MILLISECONDS), str(pools)]
     told = subprocess.run(words, stdout=subprocess.PIPE, check=True)
     return [float(word) for word in told.stdout.split()]
 
 
-def echo(peers, clients, delay=0, milliseconds=MILLISECONDS):
-    """The same of the echo, which waits so many nanoseconds before each answer."""
+def echo(peers, clients):
+    """The same of the echo."""
     with tempfile.TemporaryDirectory() as folder:
         path = f"{folder}/socket"
-        server = subprocess.Popen([f"{peers}/echo", path, str(delay)])
+        server = subprocess.Popen([f"{peers}/echo", path])
         try:
             while not os.path.exists(path):
                 time.sleep(0.001)
-            return ask(peers, path, clients, milliseconds=milliseconds)
+            return ask(peers, path, clients)
         finally:
             server.kill()
             server.wait()
@@ -53,40 +52,35 @@ def best(runs):
     return [max(run[0] for run in runs), *(min(run[n] for run in runs) for n in (1, 2, 3))]
 
 
+def line_of(figures, echoes):
+    """Requests a second and what that is of the echo's, the percentiles, and what the 99th is of the echo's."""
+    rate, tails = figures[0], " ".join(f"{it:.1f}" for it in figures[1:])
+    return f"{rate:.0f} {rate / echoes[0]:.2f}; {tails}; {figures[2] / echoes[2]:.2f}"
+
+
 def compare(program, peers):
-    print("clients: requests a second, echo and daemon, ratio; p50, p99, p999 in us, echo and daemon, ratio of p99")
+    """The echo and the daemon on each site, in turns."""
+    lines = {"EXCLUDE f{} USER nobody{}\n": range(1000), "INCLUDE f{} USER u{}\n": range(999, -1, -1)}
+    excludes, includes = ("".join(form.format(0, n) for n in numbers) for form, numbers in lines.items())
+    spread = "".join(f"EXCLUDE f{n % 64} USER nobody{n}\n" for n in range(1000))
+    sites = {
+        "one pool": (1, ""),
+        "64 pools": (64, ""),
+        "1,000 EXCLUDE lines": (1, excludes),
+        "1,000 INCLUDE lines, those of the clients last": (1, includes),
+        "64 pools, 1,000 EXCLUDE lines over them": (64, spread),
+    }
+    print("clients: requests a second, and of the echo's; p50, p99, p999 in us; p99 of the echo's")
     for clients in CLIENTS:
-        theirs, ours = [], []
+        theirs, ours = [], {site: [] for site in sites}
         for _ in range(RUNS):
             theirs.append(echo(peers, clients))
-            ours.append(daemon(program, peers, clients))
-        echoes, served = best(theirs), best(ours)
-        tails = "; ".join(" ".join(f"{it:.1f}" for it in figures[1:]) for figures in (echoes, served))
-        print(f"{clients}: {echoes[0]:.0f} {served[0]:.0f} {served[0] / echoes[0]:.2f}; {tails}; {served[2] / echoes[2]:.2f}", flush=True)
-
-
-def later_echoes(peers):
-    """What one client loses where an answer comes later by some hundred nanoseconds."""
-    runs = {delay: [] for delay in DELAYS}
-    for _ in range(2 * RUNS):
-        for delay, found in runs.items():
-            found.append(echo(peers, 1, delay, MILLISECONDS // 6))
-    for delay, found in runs.items():
-        rate = best(found)[0]
-        print(f"1 client, an echo {delay} ns later: {rate:.0f} requests a second, {rate / best(runs[0])[0]:.2f}", flush=True)
-
-
-def larger_sites(program, peers):
-    sites = (
-        ("64 pools", 64, ""),
-        ("an options file of 1,000 EXCLUDE lines", 1, "".join(f"EXCLUDE f0 USER nobody{n}\n" for n in range(1000))),
-        ("one of 1,000 INCLUDE lines, those of the clients last", 1, "".join(f"INCLUDE f0 USER u{n}\n" for n in reversed(range(1000)))),
-        ("64 pools, 1,000 EXCLUDE lines over them", 64, "".join(f"EXCLUDE f{n % 64} USER nobody{n}\n" for n in range(1000))),
-    )
-    for what, pools, options in sites:
-        for clients in CLIENTS[1:]:
-            found = best([daemon(program, peers, clients, pools, options) for _ in range(2)])
-            print(f"{what}, {clients} clients: {found[0]:.0f} requests a second; p50 {found[1]:.1f} us, p99 {found[2]:.1f}", flush=True)
+            for site, found in ours.items():
+                found.append(daemon(program, peers, clients, *sites[site]))
+        echoes = best(theirs)
+        print(f"{clients}, the echo: {line_of(echoes, echoes)}")
+        for site, found in ours.items():
+            print(f"{clients}, {site}: {line_of(best(found), echoes)}", flush=True)
 
 
 def status_of(process, field):
@@ -125,8 +119,6 @@ def main():
         sys.exit(f"bench: {program} isn't built")
     at_rest(program)
     compare(program, peers)
-    later_echoes(peers)
-    larger_sites(program, peers)
 
 
 if __name__ == "__main__":

@@ -1,8 +1,7 @@
 #!/bin/sh
 # What the daemon serves, 1, 16 and 256 clients that ask CHECKOUT and CHECKIN in turn, beside a bare echo server in
 # plain Rust with a thread for each connection (bench/peers/echo.rs and ask.rs, which rustc builds here without a
-# network); what one client of an echo loses that answers some hundred nanoseconds later; and what the daemon takes at
-# rest.
+# network), at one pool, at 64, and under 1,000 lines of options; and what the daemon takes at rest.
 # Build the program first: (cd crates/licence_main && rt run -- check data/licence data/options)
 cd "$(dirname "$0")/.." || exit 1
 peers=$(mktemp -d) || exit 1
