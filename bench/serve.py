@@ -60,8 +60,8 @@ def line_of(figures, echoes):
 
 def compare(program, peers):
     """The echo and the daemon on each site, in turns."""
-    lines = {"EXCLUDE f{} USER nobody{}\n": range(1000), "INCLUDE f{} USER u{}\n": range(999, -1, -1)}
-    excludes, includes = ("".join(form.format(0, n) for n in numbers) for form, numbers in lines.items())
+    excludes = "".join(f"EXCLUDE f0 USER nobody{n}\n" for n in range(1000))
+    includes = "".join(f"INCLUDE f0 USER u{n}\n" for n in reversed(range(1000)))
     spread = "".join(f"EXCLUDE f{n % 64} USER nobody{n}\n" for n in range(1000))
     sites = {
         "one pool": (1, ""),

@@ -151,7 +151,6 @@ def wrong_lines(program):
         with daemon.session() as session:
             for line, number in lines:
                 same(f"the line {line!r}", session.ask(line), f"BAD {number}")
-        same("so many wrong lines", len(lines), 67)
         ends_well("wrong lines", daemon)
 
 
