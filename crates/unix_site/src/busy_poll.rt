@@ -1,5 +1,5 @@
 //! When a read looks for bytes before it waits for them.
-ghost use Rattle.std.specs.Prelude.{◌≡◌, ◌+◌, ◌-◌, ◌*◌, if◌then◌else◌, min, nat_le, nat_lt};
+ghost use Rattle.std.specs.Prelude.{◌≡◌, ◌+◌, ◌-◌, ◌*◌, if◌then◌else◌, min, nat_eq, nat_le};
 
 /// After so many reads in turn that found bytes, one that finds none is an exception.
 const STREAK: u32 = 32;
@@ -11,8 +11,8 @@ const REST_LIMIT: u32 = 1023;
 const FIRST_REST: u32 = 15;
 
 /// Whether the reads of a socket look for bytes before they wait: as long as that mostly finds some. After a look in
-/// vain the next reads wait at once: one of them where 32 looks in turn had found bytes, and else 63, 255 and then 1,023
-/// of them.
+/// vain some reads wait at once: one where 32 looks in turn had found bytes, and else four times as many as before and
+/// three more, which is 63 at first and 1,023 at most.
 #[derive(Clone, Copy, Debug, PartialEq, Eq)]
 pub(crate) struct BusyPoll {
     /// How many looks in turn found bytes, up to 32.
@@ -35,14 +35,14 @@ impl BusyPoll {
         }
     }
 
-    /// Whether the next read looks; one that doesn't is counted.
-    pub(crate) fn is_due(&mut self) -> bool
-        ensures due { result ≡ nat_lt self.old.rest 1 }
+    /// Begins a read, and tells whether it looks. One that doesn't is counted.
+    pub(crate) fn begin_read(&mut self) -> bool
+        ensures looks { result ≡ nat_eq self.old.rest 0 }
         ensures counted { self.new ≡ record self.old { rest = self.old.rest - 1 } }
     {
-        let is_due = self.rest < 1;
+        let looks = self.rest == 0;
         self.rest = self.rest.saturating_sub(1);
-        is_due
+        looks
     }
 
     /// A look found bytes.

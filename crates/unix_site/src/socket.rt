@@ -90,7 +90,7 @@ impl Socket {
     pub(crate) fn read(&mut self, buffer: &mut [u8]) -> io::Result<usize>
         ensures { ReadsAtMost result buffer.new }
     {
-        if self.poll.is_due() {
+        if self.poll.begin_read() {
             if let Some(count) = self.look(buffer)? {
                 return Ok(count);
             }
