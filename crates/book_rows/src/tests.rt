@@ -1,4 +1,4 @@
 mod clocks;
 mod holders;
 mod lingering;
-mod rules;
+mod plain_book;

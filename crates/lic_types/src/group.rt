@@ -1,9 +1,7 @@
-ghost use Rattle.std.specs.Prelude.{◌≡◌, IfOk};
+ghost use Rattle.std.specs.Prelude.{◌≡◌};
 ghost use Rattle.lic_types.specs.Groups.{GroupLine};
 
 use crate::name::Name;
-use no_memory::NoMemory;
-use std::alloc::Global;
 use std::marker::Model;
 
 /// A GROUP line of an options file, which lists users, or a HOST_GROUP line, which lists hosts (FlexNet License
@@ -64,18 +62,5 @@ impl Group {
         ensures { result.now ≡ self.now.members }
     {
         self.members.as_slice()
-    }
-
-    /// A copy of it.
-    pub fn copy(&self, alloc: Global) -> Result<Group, NoMemory>
-        ensures { IfOk result (λ copy. copy ≡ self.now) }
-    {
-        let members = Vec::from_slice(alloc, self.members.as_slice())?;
-        Ok(Group {
-            line: self.line,
-            of_hosts: self.of_hosts,
-            name: self.name,
-            members,
-        })
     }
 }

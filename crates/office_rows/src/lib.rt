@@ -1,5 +1,5 @@
-//! Whole sessions at an office of several pools in memory and whole daemons, and the sites, sockets and written logs
-//! that a daemon has, as tests.
+//! Whole sessions at an office of several pools in memory and whole daemons, and the sockets and written logs that a
+//! daemon has, as tests.
 #![tactic(auto)]
 
 #[cfg(test)]

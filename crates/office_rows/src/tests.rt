@@ -1,5 +1,5 @@
 //! What a session of the first of two parties says and is told, how it ends, and which entries it makes.
-ghost use Rattle.std.specs.Prelude.{◌≡◌, ◌<◌, All, IfOk, length, vec_len};
+ghost use Rattle.std.specs.Prelude.{◌≡◌, ◌<◌, All, IfOk, vec_len};
 ghost use Rattle.licence_office.specs.Logs.{AreLogsOf};
 ghost use Rattle.licence_office.specs.Offices.{AreAt, AreDealt};
 ghost use Rattle.office_rows.specs.Ready.{HasSets, IsReady};
@@ -9,7 +9,6 @@ mod daemons;
 mod endings;
 mod glances;
 mod offices;
-mod sites;
 mod sockets;
 mod trial_links;
 

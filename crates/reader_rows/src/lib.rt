@@ -1,5 +1,4 @@
-//! What the readers of both files and of a script say of whole files, and how the faults of scripts are printed, as
-//! tests.
+//! What is read of lines, words and scripts, and how names and days are printed, as tests.
 #![tactic(auto)]
 
 #[cfg(test)]

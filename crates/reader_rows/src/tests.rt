@@ -1,7 +1,3 @@
-mod advice;
-mod licences;
-mod options_files;
 mod plain_types;
-mod routes;
 mod script_files;
 mod texts;

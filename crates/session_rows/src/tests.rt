@@ -1,8 +1,5 @@
 //! Whole sessions: what is written, how they end, and which entries they make.
 mod client;
-mod lines;
-mod memory;
-mod routes;
 mod site;
 
 use lic_types::Client;
@@ -268,26 +265,6 @@ fn sessions_are_answered_in_order(rt: HostRuntime) -> Result<(), Fail> {
     for row in SESSIONS {
         play_all(&rt, row)?;
     }
-    Ok(())
-}
-
-#[test]
-fn the_write_of_a_granted_line_fails(rt: HostRuntime) -> Result<(), Fail> {
-    let row = Row {
-        stream: b"HELLO ann h1 d1 p1\nCHECKOUT edit 1.0\nBEAT edit",
-        text: b"WELCOME 0\nGRANTED SEA",
-        end: SessionEnd::LinkFault,
-        entries: &[(Kind::Checkout, OPEN, 0), (Kind::Quit, Reply::Returned, 0)],
-        ..PLAIN
-    };
-    play(&rt, &row, WHOLE, &[2])?;
-    let mut site = Site::open(&rt, row.files, row.count)?;
-    let heard = feeds(&rt, row.stream, WHOLE)?;
-    site.serve(&rt, heard, &[2], row.moments, row.answers)?;
-    let next = feeds(&rt, b"HELLO bob h2 d2 p2\nCHECKOUT edit 1.0\nQUIT\n", WHOLE)?;
-    let served = site.serve(&rt, next, &[], row.moments, row.answers)?;
-    let text = b"WELCOME 0\nGRANTED SEAT 0 OPEN #2\nBYE\n";
-    assert_eq!(&rt; served.text.as_slice(), text.as_slice());
     Ok(())
 }
 

@@ -1,4 +1,4 @@
-//! The offline commands on files and sinks in memory, and what they are made of, as tests.
+//! The offline commands where words, files and writes fail, and the files and sinks that they have, as tests.
 #![tactic(auto)]
 
 #[cfg(test)]

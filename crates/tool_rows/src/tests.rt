@@ -1,6 +1,3 @@
-mod audits;
-mod checks;
 mod files;
 mod replays;
-mod replies;
 mod tools;

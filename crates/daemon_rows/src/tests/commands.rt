@@ -124,18 +124,6 @@ fn a_daemon_writes_what_its_client_was_told(rt: HostRuntime) -> Result<(), Fail>
 }
 
 #[test]
-fn a_path_that_is_not_the_site_s_is_a_site_fault(rt: HostRuntime) -> Result<(), Fail> {
-    let mut site = site_of(rt.alloc(), Vec::new(rt.alloc()), Vec::new(rt.alloc()))?;
-    let words = ["serve", "licence", "options", "reef", "2"];
-    let ended = run(&rt, &words, &mut site, &[])?;
-    assert_eq!(rt; ended.status, DaemonStatus::SiteFault);
-    assert_eq!(rt; ended.err.as_slice(), b"site fault\n".as_slice());
-    assert!(rt; ended.out.is_empty());
-    assert_eq!(rt; site.made, 0);
-    Ok(())
-}
-
-#[test]
 fn broken_doors_are_told_with_the_whole_text(rt: HostRuntime) -> Result<(), Fail> {
     let (first, second) = (faults(rt.alloc(), 1000)?, faults(rt.alloc(), 1000)?);
     let mut site = site_of(rt.alloc(), first, second)?;
@@ -159,45 +147,6 @@ fn a_write_that_fails_is_told_before_a_broken_door(rt: HostRuntime) -> Result<()
 }
 
 #[test]
-fn a_further_file_is_accepted_before_the_daemon_listens(rt: HostRuntime) -> Result<(), Fail> {
-    let mut site = site_of(rt.alloc(), Vec::new(rt.alloc()), Vec::new(rt.alloc()))?;
-    let words = ["serve", "licence", "options", "keel", "2", "options", "bad"];
-    let ended = run(&rt, &words, &mut site, &[])?;
-    assert_eq!(rt; ended.status.code(), 4);
-    assert_eq!(rt;
-        ended.err.as_slice(),
-        b"options 2: line 1: unknown keyword\n".as_slice()
-    );
-    assert_eq!(rt; site.calls, 0);
-    Ok(())
-}
-
-#[test]
-fn other_numbers_of_sessions_are_no_command(rt: HostRuntime) -> Result<(), Fail> {
-    for sessions in ["1", "257", "+2", ""] {
-        let mut site = site_of(rt.alloc(), Vec::new(rt.alloc()), Vec::new(rt.alloc()))?;
-        let words = ["serve", "licence", "options", "keel", sessions];
-        let ended = run(&rt, &words, &mut site, &[])?;
-        assert_eq!(rt; ended.status, DaemonStatus::Tool(Status::Usage));
-    }
-    Ok(())
-}
-
-#[test]
-fn a_trial_writes_its_numbers(rt: HostRuntime) -> Result<(), Fail> {
-    let mut site = site_of(rt.alloc(), Vec::new(rt.alloc()), Vec::new(rt.alloc()))?;
-    let ended = run(&rt, &["trial-threads", "2", "1", "3"], &mut site, &[])?;
-    assert_eq!(rt; ended.status, DaemonStatus::Tool(Status::Done));
-    assert_eq!(rt;
-        ended.out.as_slice(),
-        b"CLIENTS 2 SEATS 1 ROUNDS 3\nGRANTS 6\nCARD USES 6\n".as_slice()
-    );
-    assert!(rt; ended.err.is_empty());
-    assert_eq!(rt; (site.made, site.posted), (2, 0));
-    Ok(())
-}
-
-#[test]
 fn a_trial_without_a_post_for_a_client_is_a_site_fault(rt: HostRuntime) -> Result<(), Fail> {
     let mut site = site_of(rt.alloc(), Vec::new(rt.alloc()), Vec::new(rt.alloc()))?;
     let ended = run(&rt, &["trial-threads", "3", "1", "1"], &mut site, &[])?;
@@ -205,19 +154,5 @@ fn a_trial_without_a_post_for_a_client_is_a_site_fault(rt: HostRuntime) -> Resul
     assert_eq!(rt; ended.err.as_slice(), b"site fault\n".as_slice());
     assert!(rt; ended.out.is_empty());
     assert_eq!(rt; (site.made, site.posted), (2, 0));
-    Ok(())
-}
-
-#[test]
-fn other_words_are_for_the_tools(rt: HostRuntime) -> Result<(), Fail> {
-    let mut site = site_of(rt.alloc(), Vec::new(rt.alloc()), Vec::new(rt.alloc()))?;
-    let ended = run(&rt, &["check", "licence", "bad"], &mut site, &[])?;
-    assert_eq!(rt; ended.status.code(), 4);
-    assert_eq!(rt;
-        ended.err.as_slice(),
-        b"options: line 1: unknown keyword\n".as_slice()
-    );
-    assert_eq!(rt; DaemonStatus::SiteFault.code(), 9);
-    assert_eq!(rt; DaemonStatus::DoorFault.code(), 13);
     Ok(())
 }

@@ -126,44 +126,6 @@ fn look<R: Wait>(rt: &R, client: &Client, board: &mut Board)
     board.publish(rt, &looked, OPENING);
 }
 
-/// What the second pass knows after it heard a note of the first, which was read when one more entry was published, and
-/// after it heard its own old note.
-fn heard<R: Wait>(
-    rt: &R,
-    board: &mut Board,
-    mut passes: Vec<BoardPass>,
-    client: &Client,
-) -> (u64, u64, u64)
-    requires sets { board.old.front.sets ≡ one_seat }
-    requires empty { board.old.front.list ≡ [] }
-    requires count { vec_len passes ≡ 2 }
-    requires passes { All (λ p. p ≡ board.old.front) passes.items }
-{
-    let mut second = passes.pop().unwrap();
-    let mut first = passes.pop().unwrap();
-    let old = second.note();
-    look(rt, client, board);
-    let read = first.glance().front;
-    second.hear(&first.note());
-    let told = second.note().front();
-    second.hear(&old);
-    (read, told, second.note().front())
-}
-
-#[test]
-fn a_heard_note_is_kept(rt: HostRuntime) -> Result<(), Fail> {
-    let client = ann()?;
-    let made = opened(&rt, rt.alloc(), 2);
-    assert!(rt; made.is_ok());
-    let Ok((mut board, passes)) = made else {
-        return Ok(());
-    };
-    let fronts = heard(&rt, &mut board, passes, &client);
-    board.end(&rt);
-    assert_eq!(rt; fronts, (1, 1, 1));
-    Ok(())
-}
-
 /// Publishes so many entries, and gives how many of them before the board was live no more.
 fn publish_many<R: Wait>(rt: &R, client: &Client, board: &mut Board, times: u64) -> u64
     requires sets { board.old.front.sets ≡ one_seat }
@@ -192,43 +154,6 @@ fn watch(pass: &mut BoardPass, times: u64) -> (bool, u64) {
 }
 
 const MANY: u64 = 10_000;
-
-/// One thread publishes so many entries, and another reads as often. How many were published, what the reader tells,
-/// and the front at the end.
-fn publish_and_watch<R: Threads + Wait + Sync>(
-    rt: &R,
-    mut board: Board,
-    mut pass: BoardPass,
-    client: Client,
-) -> (u64, (bool, u64), u64)
-    requires sets { board.front.sets ≡ one_seat }
-    requires idle { IsIdle board.front.list }
-{
-    let shared = &client;
-    let (published, watched) = join_mut(
-        rt,
-        &mut || publish_many(rt, shared, &mut board, MANY),
-        &mut || watch(&mut pass, MANY),
-    );
-    let end = pass.glance().front;
-    board.end(rt);
-    (published, watched, end)
-}
-
-#[test]
-fn fronts_never_fall_while_another_thread_publishes(rt: HostRuntime) -> Result<(), Fail> {
-    let client = ann()?;
-    let made = opened(&rt, rt.alloc(), 1);
-    assert!(rt; made.is_ok());
-    let Ok((board, mut passes)) = made else {
-        return Ok(());
-    };
-    let pass = passes.pop().unwrap();
-    let (published, (fell, last), end) = publish_and_watch(&rt, board, pass, client);
-    assert_eq!(rt; (published, fell, end), (MANY, false, MANY));
-    assert!(rt; last <= end);
-    Ok(())
-}
 
 /// A party that reads the board, and whether a front fell that it read.
 #[derive(Drop)]
@@ -294,21 +219,5 @@ fn eight_threads_share_the_readers(rt: HostRuntime) -> Result<(), Fail> {
         publish_and_watch_all(&rt, board, watchers, client),
         (false, true)
     );
-    Ok(())
-}
-
-/// Where memory is refused on the way, the board ends there, and its last Glance stays.
-#[test]
-fn a_refused_append_ends_the_publishing(rt: HostRuntime) -> Result<(), Fail> {
-    let client = ann()?;
-    let Ok((mut board, mut passes)) = opened(&rt, rt.alloc(), 1) else {
-        return Ok(());
-    };
-    let mut pass = passes.pop().unwrap();
-    let published = publish_many(&rt, &client, &mut board, 5);
-    let live = board.is_live();
-    let last = pass.glance().front;
-    board.end(&rt);
-    assert_eq!(rt; (live, last), (published == 5, published));
     Ok(())
 }

@@ -9,107 +9,6 @@ use std::thread::{Threads, join, map_vec, yield_now};
 use turn_lock::sum::{Addend, Sum};
 use turn_lock::{Answered, Kept, Stepped, TurnPass, Turns};
 
-/// Asks a sum so often, with 1 each.
-fn ask_often<R: Wait>(
-    rt: &R,
-    lock: &Turns<Sum>,
-    mut pass: TurnPass<Sum>,
-    times: u32,
-) -> TurnPass<Sum>
-    requires { pass.lock ≡ lock.now.id }
-    ensures { result.lock ≡ pass.lock }
-{
-    for _ in 0..times {
-        let party = pass.number();
-        lock.ask(rt, &mut pass, &Addend { party, amount: 1 }, 0);
-    }
-    pass
-}
-
-/// Asks a sum once, and gives what it is told: the answer, the place and the moment.
-fn told_once<R: Wait>(
-    rt: &R,
-    lock: &Turns<Sum>,
-    pass: &mut TurnPass<Sum>,
-    amount: u64,
-    moment: u64,
-) -> (u64, u64, u64)
-    requires { pass.old.lock ≡ lock.now.id }
-    ensures { pass.new.lock ≡ pass.old.lock }
-{
-    let party = pass.number();
-    let told = lock.ask(rt, pass, &Addend { party, amount }, moment);
-    (told.answer, told.place, told.used)
-}
-
-/// The one party asks with 5 and with 7, and the lock is closed: what it is told each time, the sum, and the number of
-/// the calls.
-fn ask_twice<R: Wait>(
-    rt: &R,
-    lock: Turns<Sum>,
-    mut passes: Vec<TurnPass<Sum>>,
-) -> ([(u64, u64, u64); 2], (u64, u64))
-    requires parties { lock.id.parties ≡ 1 }
-    requires count { vec_len passes ≡ 1 }
-    requires lock { All (λ p. p.lock ≡ lock.id) passes.items }
-{
-    let mut pass = passes.pop().unwrap();
-    let first = told_once(rt, &lock, &mut pass, 5, 100);
-    let second = told_once(rt, &lock, &mut pass, 7, 99);
-    passes.push_reserved(pass);
-    let (sum, calls) = lock.close(passes);
-    ([first, second], (sum.total, calls))
-}
-
-#[test]
-fn answers_are_the_sums_before(rt: HostRuntime) -> Result<(), Fail> {
-    let made = Turns::make(rt.alloc(), Sum { total: 0 }, 1);
-    assert!(rt; made.is_ok());
-    let Ok((lock, passes)) = made else {
-        return Ok(());
-    };
-    let told = ask_twice(&rt, lock, passes);
-    assert_eq!(rt; told, ([(0, 0, 100), (5, 1, 99)], (12, 2)));
-    Ok(())
-}
-
-/// Two threads ask so often each, and the lock is closed.
-fn both_ask<R: Threads + Wait + Sync>(
-    rt: &R,
-    lock: Turns<Sum>,
-    mut passes: Vec<TurnPass<Sum>>,
-    times: u32,
-) -> (u64, u64)
-    requires parties { lock.id.parties ≡ 2 }
-    requires count { vec_len passes ≡ 2 }
-    requires lock { All (λ p. p.lock ≡ lock.id) passes.items }
-{
-    let second = passes.pop().unwrap();
-    let first = passes.pop().unwrap();
-    let shared = &lock;
-    let (first, second) = join(
-        rt,
-        move || ask_often(rt, shared, first, times),
-        move || ask_often(rt, shared, second, times),
-    );
-    passes.push_reserved(first);
-    passes.push_reserved(second);
-    let (sum, calls) = lock.close(passes);
-    (sum.total, calls)
-}
-
-#[test]
-fn two_threads_lose_no_call(rt: HostRuntime) -> Result<(), Fail> {
-    let made = Turns::make(rt.alloc(), Sum { total: 0 }, 2);
-    assert!(rt; made.is_ok());
-    let Ok((lock, passes)) = made else {
-        return Ok(());
-    };
-    let told = both_ask(&rt, lock, passes, 1000);
-    assert_eq!(rt; told, (2000, 2000));
-    Ok(())
-}
-
 /// The places of so many calls with 1 each, in their order. A place that is not its call's answer is given as u64::MAX.
 fn places_of<R: Wait>(rt: &R, lock: &Turns<Sum>, mut pass: TurnPass<Sum>) -> [u64; 500]
     requires { pass.lock ≡ lock.now.id }
@@ -191,21 +90,6 @@ impl Kept for Sealed {
     }
 }
 
-#[test]
-fn a_value_comes_back_that_may_not_be_dropped(rt: HostRuntime) {
-    match Turns::make(rt.alloc(), Sealed { steps: 0 }, 1) {
-        Ok((lock, mut passes)) => {
-            let mut pass = passes.pop().unwrap();
-            let Answered { used, .. } = lock.ask(&rt, &mut pass, &0, 9);
-            assert_eq!(rt; used, 9);
-            passes.push_reserved(pass);
-            let (value, calls) = lock.close(passes);
-            assert_eq!(rt; (value.open(), calls), (1, 1));
-        }
-        Err((_, value)) => assert_eq!(rt; value.open(), 0),
-    }
-}
-
 /// Asks once.
 fn ask_once<R: Wait>(rt: &R, lock: &Turns<Sealed>, mut pass: TurnPass<Sealed>) -> TurnPass<Sealed>
     requires { pass.lock ≡ lock.now.id }
@@ -214,16 +98,6 @@ fn ask_once<R: Wait>(rt: &R, lock: &Turns<Sealed>, mut pass: TurnPass<Sealed>) -
     let party = pass.number();
     lock.ask(rt, &mut pass, &party, 0);
     pass
-}
-
-/// A pass, and a list of passes, may be let go, also on an early way out.
-fn let_go(
-    pass: TurnPass<Sealed>,
-    _others: Vec<TurnPass<Sealed>>,
-    said: Option<u32>,
-) -> Option<u32> {
-    let number = said?;
-    Some(number ^ pass.number())
 }
 
 /// Each pass goes to a thread of its own, and comes back.

@@ -1,4 +1,4 @@
-ghost use Rattle.std.specs.Prelude.{◌≡◌, ◌^◌, ◌<◌, length};
+ghost use Rattle.std.specs.Prelude.{◌≡◌};
 
 use audit_log::{
     LogPush, LogTake, Logged, is_summary, log_queue, read_entry, write_entry, write_log,
@@ -7,8 +7,6 @@ use audit_log::{
 use lic_text::lines;
 use lic_types::{Client, Name};
 use options_machine::{Charge, Entry, Kind, Reply, Request};
-use script_words::{ScriptFault, ScriptWord};
-use std::alloc::Global;
 use std::sync::Wait;
 use std::test::Fail;
 use std::thread::{Threads, join};
@@ -30,21 +28,6 @@ fn entry_at(party: u32, moment: u64, kind: Kind, reply: Reply) -> Result<Entry, 
         moment,
         reply,
     })
-}
-
-#[test]
-fn what_is_pushed_comes_out_in_order(rt: HostRuntime) -> Result<(), Fail> {
-    let (mut push, mut take) = log_queue(rt.alloc())?;
-    let first = entry_at(0, 0, Kind::Look, Reply::NotHeld)?;
-    let second = entry_at(1, 5, Kind::Checkout, Reply::Granted(Charge::Open))?;
-    assert!(rt; !take.take(&rt));
-    assert!(rt; push.push(&rt, &first));
-    assert!(rt; push.push(&rt, &second));
-    assert!(rt; take.take(&rt));
-    assert!(rt; take.taken() == [first].as_slice());
-    take.finish(&rt, push);
-    assert!(rt; take.into_entries().as_slice() == [first, second].as_slice());
-    Ok(())
 }
 
 /// Pushes an entry so many times, made at the moments 0, 1 and so on.
@@ -243,120 +226,6 @@ fn entries_are_written_and_read_back(rt: HostRuntime) -> Result<(), Fail> {
         };
         assert!(rt; read_entry(&line) == Ok(logged));
         assert!(rt; !is_summary(&line));
-    }
-    Ok(())
-}
-
-/// Of each line of a log in order, why it is no entry, or None where it is one.
-fn faults_of(alloc: Global, log: &[u8]) -> Result<Vec<Option<ScriptFault>>, Fail>
-    requires { length log.now < 2 ^ 32 }
-{
-    let mut faults = Vec::new(alloc);
-    for line in lines(log) {
-        faults.push(read_entry(&line?).err())?;
-    }
-    Ok(faults)
-}
-
-/// Lines that are no entries, each with its fault.
-const FAULTS: &[(&[u8], ScriptWord)] = &[
-    (b"LOG 0 ENTRIES 2 WHOLE", ScriptWord::UnknownWord),
-    (
-        b"entry 0 #0 0 0 a h d p LOOK NOTHELD",
-        ScriptWord::UnknownWord,
-    ),
-    (b"ENTRY x #0 0 0 a h d p LOOK", ScriptWord::WordCount),
-    (
-        b"ENTRY 4294967296 0 0 0 a h d p LOOK NOTHELD",
-        ScriptWord::BadNumber,
-    ),
-    (b"ENTRY 0 0 0 0 a h d p LOOK NOTHELD", ScriptWord::BadNumber),
-    (b"ENTRY 0 # 0 0 a h d p LOOK NOTHELD", ScriptWord::BadNumber),
-    (
-        b"ENTRY 0 #0 1099511627776 0 a h d p LOOK NOTHELD",
-        ScriptWord::BadNumber,
-    ),
-    (
-        b"ENTRY 0 #0 0 256 a h d p LOOK NOTHELD",
-        ScriptWord::BadNumber,
-    ),
-    (
-        b"ENTRY 0 #0 0 0 a\x01 h d p LOOK NOTHELD",
-        ScriptWord::BadName,
-    ),
-    (
-        b"ENTRY 0 #0 0 0 a h d\x01 p STATUS NOTHELD",
-        ScriptWord::BadName,
-    ),
-    (
-        b"ENTRY 0 #0 0 0 a h d p STATUS NOTHELD",
-        ScriptWord::UnknownWord,
-    ),
-    (
-        b"ENTRY 0 #0 0 0 a h d p LOOK notheld",
-        ScriptWord::UnknownWord,
-    ),
-    (
-        b"ENTRY 0 #0 0 0 a h d p LOOK NOTHELD NOTHELD",
-        ScriptWord::UnknownWord,
-    ),
-    (
-        b"ENTRY 0 #0 0 0 a h d p CHECKOUT GRANTED",
-        ScriptWord::UnknownWord,
-    ),
-    (
-        b"ENTRY 0 #0 0 0 a h d p CHECKOUT GRANTED RESERVE 01",
-        ScriptWord::UnknownWord,
-    ),
-    (
-        b"ENTRY 0 #0 0 0 a h d p CHECKOUT GRANTED RESERVE 4294967296",
-        ScriptWord::UnknownWord,
-    ),
-    (
-        b"ENTRY 0 #0 0 0 a h d p CHECKOUT GRANTED OPEN OPEN",
-        ScriptWord::UnknownWord,
-    ),
-    (
-        b"ENTRY 0 #0 0 0 a h d p CHECKOUT DENIED 1",
-        ScriptWord::UnknownWord,
-    ),
-    (
-        b"ENTRY 0 #0 0 0 a h d p CHECKOUT NOSEAT TAKEN 1 OF",
-        ScriptWord::UnknownWord,
-    ),
-    (
-        b"ENTRY 0 #0 0 0 a h d p COUNT COUNTS HELD 1 LINGERING 2 OPEN 3 OF 4 OWN 3",
-        ScriptWord::UnknownWord,
-    ),
-    (
-        b"ENTRY 0 #0 0 0 a h d p QUIT LINGERING UNTIL 18446744073709551616",
-        ScriptWord::UnknownWord,
-    ),
-    (
-        b"ENTRY 0 #0 0 0 a h d p QUEUE QUEUED +1",
-        ScriptWord::UnknownWord,
-    ),
-    (
-        b"ENTRY 0 #0 0 0 a h d p REREAD NOTHELD",
-        ScriptWord::UnknownWord,
-    ),
-    (
-        b"ENTRY 0 #0 0 0 a h d p REREAD REREAD",
-        ScriptWord::UnknownWord,
-    ),
-];
-
-/// Each fault on the first line of a log, and behind a good line.
-#[test]
-fn lines_at_fault_are_named(rt: HostRuntime) -> Result<(), Fail> {
-    for &(text, fault) in FAULTS {
-        let mut log = Vec::from_slice(rt.alloc(), b"ENTRY 0 #0 0 0 a h d p LOOK NOTHELD\n")?;
-        log.extend_from_slice(text)?;
-        assert!(rt; text.len() < 1000 && log.len() < 1000);
-        let alone = faults_of(rt.alloc(), text)?;
-        assert!(rt; alone.as_slice() == [Some(ScriptFault { line: 1, fault })].as_slice());
-        let behind = faults_of(rt.alloc(), log.as_slice())?;
-        assert!(rt; behind.as_slice() == [None, Some(ScriptFault { line: 2, fault })].as_slice());
     }
     Ok(())
 }

@@ -6,10 +6,7 @@ use kex_core::{NoMemory, Place};
 use kex_net::chain;
 use kex_words::{Back, Entering, Hold, KexTable, Leaving, Next, Out};
 use std::alloc::Global;
-use std::sync::Wait;
 use std::test::Fail;
-use std::thread::{Threads, join};
-use std::time::Duration;
 
 /// The access of a pass among the stages.
 fn stage_step(table: &KexTable, e: Entering) -> Next
@@ -123,58 +120,6 @@ fn two_hold(table: &KexTable, zero: Out, one: Out) -> Option<(Hold, Hold)>
     ensures { IfSome result (λ t. (t.0.pass.table ≡ table.now) × (t.1.pass.table ≡ table.now)) }
 {
     Some((hold(table, zero, 3)?, hold(table, one, 3)?))
-}
-
-/// Parties 0 and 1 have passed, and party 2 finds no room. It naps once while it spins.
-fn full_stage<R: Wait>(rt: &R, table: &KexTable, two: Out) -> [Option<Place>; 5]
-    requires { two.table ≡ table.now }
-{
-    let two = table.begin(two);
-    let begun = place_in(&two);
-    let two = inward(table, two, 1);
-    let counted = place_in(&two);
-    let two = inward(table, two, 1);
-    let marked = place_in(&two);
-    let two = inward(table, two, 1);
-    let waiting = place_in(&two);
-    if let Next::Entering(e) = &two {
-        table.nap(rt, e, Duration::from_micros(50));
-    }
-    let two = inward(table, two, 1);
-    [begun, counted, marked, waiting, place_in(&two)]
-}
-
-/// Where party 2 stands from step to step, and where parties 0 and 1 do.
-fn third_spins<R: Wait>(
-    rt: &R,
-    table: &KexTable,
-    zero: Out,
-    one: Out,
-    two: Out,
-) -> ([Option<Place>; 5], [Option<Place>; 2])
-    requires zero { zero.table ≡ table.now }
-    requires one { one.table ≡ table.now }
-    requires two { two.table ≡ table.now }
-{
-    let zero = inward(table, table.begin(zero), 1);
-    let one = inward(table, table.begin(one), 1);
-    let places = full_stage(rt, table, two);
-    (places, [place_in(&zero), place_in(&one)])
-}
-
-#[test]
-fn two_pass_and_the_third_spins(rt: HostRuntime) -> Result<(), Fail> {
-    let (table, zero, one, two) = three(rt.alloc())?;
-    let third = [
-        Place::Out,
-        Place::Mark(0),
-        Place::Look(0),
-        Place::Spin(0),
-        Place::Spin(0),
-    ];
-    let expected = (third.map(Some), [Some(Place::Naming(0)); 2]);
-    assert_eq!(rt; third_spins(&rt, &table, zero, one, two), expected);
-    Ok(())
 }
 
 /// Parties 0 and 1 hold, and party 2 waits. Party 0 leaves up to its Inc: party 2 still waits. Party 0 unmarks: party 2
@@ -317,48 +262,5 @@ fn a_card_counts_its_uses(rt: HostRuntime) -> Result<(), Fail> {
     let (zero, second) = trip(&table, zero).expect(&rt, "party 0 is back");
     assert_eq!(rt; [first, second], [[1, 0, 1], [0, 0, 2]]);
     assert_eq!(rt; uses_of(table, passes, zero, one), 2);
-    Ok(())
-}
-
-/// Enters and leaves so often, where no party waits.
-fn trips(table: &KexTable, mut out: Out, times: u32) -> Option<Out>
-    requires { out.table ≡ table.now }
-    ensures { IfSome result (λ o. o.table ≡ table.now) }
-{
-    for _trip in 0..times {
-        let (back, _told) = trip(table, out)?;
-        out = back;
-    }
-    Some(out)
-}
-
-/// Two threads make so many trips each.
-fn both_trip<R: Threads + Sync>(
-    rt: &R,
-    table: &KexTable,
-    zero: Out,
-    one: Out,
-    times: u32,
-) -> (Option<Out>, Option<Out>)
-    requires zero { zero.table ≡ table.now }
-    requires one { one.table ≡ table.now }
-    ensures zero { IfSome result.0 (λ o. o.table ≡ table.now) }
-    ensures one { IfSome result.1 (λ o. o.table ≡ table.now) }
-{
-    join(
-        rt,
-        move || trips(table, zero, times),
-        move || trips(table, one, times),
-    )
-}
-
-/// Chain(2, 2) has no stage, one bit and the numbers 0 and 1.
-#[test]
-fn two_threads_use_the_cards(rt: HostRuntime) -> Result<(), Fail> {
-    let (table, passes, zero, one) = pair(rt.alloc(), 2)?;
-    let (zero, one) = both_trip(&rt, &table, zero, one, 1000);
-    let zero = zero.expect(&rt, "party 0 is back");
-    let one = one.expect(&rt, "party 1 is back");
-    assert_eq!(rt; uses_of(table, passes, zero, one), 2000);
     Ok(())
 }

@@ -76,18 +76,6 @@ fn logs_come_before_tallies_in_one_write(rt: HostRuntime) -> Result<(), Fail> {
 }
 
 #[test]
-fn a_full_buffer_is_written_on_the_way(rt: HostRuntime) -> Result<(), Fail> {
-    // 300 lines of 40 bytes and 790 digits of their places, a line of 24 bytes, and one of 39.
-    let logs = [log_of(rt.alloc(), 300, false)?];
-    let tallies = [tally_of(300, 0)];
-    let (sink, done) = written(rt.alloc(), &logs, &tallies, Vec::new(rt.alloc()))?;
-    assert!(rt; done.is_ok());
-    assert_eq!(rt; sink.bytes.len(), 12_853);
-    assert_eq!(rt; sink.calls, 2);
-    Ok(())
-}
-
-#[test]
 fn a_write_that_fails_is_told(rt: HostRuntime) -> Result<(), Fail> {
     let logs = [log_of(rt.alloc(), 300, false)?];
     let tallies = [tally_of(300, 0)];

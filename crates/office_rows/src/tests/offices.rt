@@ -1,26 +1,15 @@
 //! An office with its parties.
-ghost use Rattle.std.specs.Prelude.{◌≡◌, ◌<◌, ◌≤◌, All, IfOk, length, vec_len};
-ghost use Rattle.options_machine.specs.Run.{IsBelow};
-ghost use Rattle.options_machine.specs.Step.{set_asked};
-ghost use Rattle.feature_desk.specs.Closings.{Rests};
-ghost use Rattle.feature_desk.specs.Sitters.{IsOf};
+ghost use Rattle.std.specs.Prelude.{◌≡◌, ◌≤◌, All, IfOk, vec_len};
 ghost use Rattle.licence_office.specs.Logs.{AreLogsOf};
 ghost use Rattle.licence_office.specs.Offices.{AreAt};
 
-use counter::Counter;
-use feature_desk::{Desk, DeskPass, DeskTally};
 use feature_lines::{Found, read_licence};
-use lic_types::{Client, Name, Version};
+use lic_types::{Name, Version};
 use licence_office::{Office, OfficeLogs, OfficePass};
-use options_machine::Kind;
 use options_text::read_options;
 use std::process::Abort;
 use std::sync::Wait;
 use std::test::Fail;
-
-/// Two pools, of two licences and of one.
-const TWO_POOLS: &[u8] =
-    b"FEATURE draft acme 2.0 permanent 2 SIGN=01\nFEATURE render acme 1.0 permanent 1 SIGN=02\n";
 
 /// Ten pools, of which the first has two lines; `doc` is not counted, so no pool is made of it.
 const SITE: &[u8] = b"SERVER lic1 001122334455 27000\n\
@@ -69,103 +58,6 @@ fn office_of(
     let licence = read_licence(alloc, licence)?;
     let options = read_options(alloc, options)?;
     Ok(Office::make(rt, alloc, &licence, &options, parties)?)
-}
-
-/// Checks out, and tells the seat.
-fn checked_out<R: Wait>(rt: &R, desk: &Desk, pass: &mut DeskPass, client: &Client) -> Option<u32>
-    requires { IsOf pass.old desk.now }
-    ensures { IsOf pass.new desk.now }
-{
-    pass.ask(rt, desk, Kind::Checkout, client, 0);
-    pass.seat()
-}
-
-/// Gives back what the party has.
-fn quit<R: Wait>(rt: &R, desk: &Desk, pass: &mut DeskPass, client: &Client)
-    requires { IsOf pass.old desk.now }
-    ensures { IsOf pass.new desk.now × Rests pass.new }
-{
-    pass.ask(rt, desk, Kind::Quit, client, 0);
-}
-
-/// Both parties check out, and then give back what they have; the seats that they had at one time.
-fn meet<R: Wait>(
-    rt: &R,
-    desk: &Desk,
-    one: &mut DeskPass,
-    two: &mut DeskPass,
-    client: &Client,
-) -> (Option<u32>, Option<u32>)
-    requires one { IsOf one.old desk.now }
-    requires two { IsOf two.old desk.now }
-    ensures one { IsOf one.new desk.now × Rests one.new }
-    ensures two { IsOf two.new desk.now × Rests two.new }
-{
-    let first = checked_out(rt, desk, one, client);
-    let second = checked_out(rt, desk, two, client);
-    quit(rt, desk, one, client);
-    quit(rt, desk, two, client);
-    (first, second)
-}
-
-/// The two parties meet at their first desk.
-fn all_meet<R: Wait>(
-    rt: &R,
-    office: &Office,
-    passes: &mut Vec<OfficePass>,
-    client: &Client,
-) -> (Option<u32>, Option<u32>)
-    requires some { 0 < length office.now.view.pools }
-    requires two { vec_len passes.old ≡ 2 }
-    requires ready { All (λ p. AreAt office.now.view.desks p.items) passes.old.items }
-    ensures two { vec_len passes.new ≡ 2 }
-    ensures ready { All (λ p. AreAt office.now.view.desks p.items) passes.new.items }
-{
-    let view = office.view();
-    let _pools = view.pools();
-    let desk = view.desk(0);
-    let Some(mut two) = passes.pop() else {
-        unreachable!()
-    };
-    let Some(mut one) = passes.pop() else {
-        unreachable!()
-    };
-    let seats = meet(rt, desk, &mut one[0], &mut two[0], client);
-    passes.push_reserved(one);
-    passes.push_reserved(two);
-    seats
-}
-
-#[test]
-fn each_desk_tells_its_own_numbers_and_log(rt: HostRuntime) -> Result<(), Fail> {
-    let ann = Client {
-        user: Name::read(b"ann")?,
-        host: Name::read(b"h1")?,
-        display: Name::read(b"d1")?,
-        project: Name::read(b"p1")?,
-    };
-    let (office, mut passes, logs) = office_of(&rt, TWO_POOLS, b"", 2)?;
-    assert_eq!(rt; office.view().pools().len(), 2);
-    let (one, two) = all_meet(&rt, &office, &mut passes, &ann);
-    assert_eq!(rt;
-        (one.is_some(), two.is_some(), one == two),
-        (true, true, false)
-    );
-    let end = office.close_with_log(&rt, passes, logs);
-    let draft = DeskTally {
-        calls: 4,
-        grants: 2,
-        uses: 2,
-    };
-    let render = DeskTally {
-        calls: 0,
-        grants: 0,
-        uses: 0,
-    };
-    assert_eq!(rt; end.tallies.as_slice(), [draft, render].as_slice());
-    let mut entries = end.logs.iter().map(|log| log.entries.len());
-    assert_eq!(rt; (entries.next(), entries.next()), (Some(4), Some(0)));
-    Ok(())
 }
 
 #[test]

@@ -31,30 +31,3 @@ fn a_client_plays_its_rounds(rt: HostRuntime) -> Result<(), Fail> {
     assert_eq!(rt; (link.played, link.grants), (2, 2));
     Ok(())
 }
-
-#[test]
-fn a_line_is_given_in_pieces_that_fit(rt: HostRuntime) -> Result<(), Fail> {
-    let mut link = TrialLink::make(rt.alloc(), 255, 1)?;
-    let mut room = [0u8; 20];
-    assert!(rt; link.read(&mut room) == Got::Bytes(20));
-    assert!(rt; room.as_slice() == b"HELLO u255 h255 d255".as_slice());
-    assert!(rt; link.read(&mut room) == Got::Bytes(6));
-    assert!(rt; room.starts_with(b" p255\n"));
-    assert!(rt; link.read(&mut room) == Got::End);
-    assert!(rt; link.write(b"WELCOME 0\n").is_ok());
-    assert!(rt; link.read(&mut room) == Got::End);
-    Ok(())
-}
-
-#[test]
-fn another_reply_to_a_checkout_ends_it(rt: HostRuntime) -> Result<(), Fail> {
-    let mut link = TrialLink::make(rt.alloc(), 0, 1)?;
-    let mut room = [0u8; 32];
-    assert!(rt; link.read(&mut room) == Got::Bytes(18));
-    assert!(rt; link.write(b"WELCOME 0\n").is_ok());
-    assert!(rt; link.read(&mut room) == Got::Bytes(19));
-    assert!(rt; link.write(b"UNKNOWN\n").is_ok());
-    assert!(rt; link.read(&mut room) == Got::End);
-    assert_eq!(rt; (link.played, link.grants), (0, 0));
-    Ok(())
-}

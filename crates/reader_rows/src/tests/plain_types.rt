@@ -1,37 +1,7 @@
 ghost use Rattle.std.specs.Prelude.{◌≤◌};
 
-use lic_types::{Client, Day, Group, Name, NameFault, Version};
-use std::process::Abort;
+use lic_types::{Day, Name, Version};
 use std::test::Fail;
-
-#[test]
-fn words_that_are_names(rt: HostRuntime) -> Result<(), Fail> {
-    let longest = [b'a'; 64];
-    let words: [&[u8]; 4] = [b"a", b"ann", b"!~:-\\#", &longest];
-    for word in words {
-        let name = Name::read(word)?;
-        assert!(rt; name.bytes() == word);
-    }
-    Ok(())
-}
-
-#[test]
-fn words_that_are_no_names(rt: HostRuntime) {
-    let long = [b'a'; 65];
-    let long_and_bad = [b' '; 65];
-    let rows: [(&[u8], NameFault); 7] = [
-        (b"", NameFault::Empty),
-        (&long, NameFault::TooLong),
-        (&long_and_bad, NameFault::TooLong),
-        (b"an n", NameFault::BadByte(2)),
-        (b"\tann", NameFault::BadByte(0)),
-        (b"ann\x7f\x80", NameFault::BadByte(3)),
-        (b"\x00", NameFault::BadByte(0)),
-    ];
-    for (word, fault) in rows {
-        assert_eq!(rt; Name::read(word), Err(fault));
-    }
-}
 
 #[test]
 fn words_that_are_versions(rt: HostRuntime) {
@@ -49,72 +19,6 @@ fn words_that_are_versions(rt: HostRuntime) {
     for &(word, key) in ROWS {
         assert_eq!(rt; Version::read(word), Some(Version { key }));
     }
-}
-
-#[test]
-fn words_that_are_no_versions(rt: HostRuntime) {
-    const ROWS: &[&[u8]] = &[
-        b"",
-        b".",
-        b"1.",
-        b".1",
-        b"1.2.3",
-        b"1a",
-        b"-1",
-        b"12345678901",
-        b"1.000000000",
-    ];
-    for &word in ROWS {
-        assert_eq!(rt; Version::read(word), None);
-    }
-}
-
-#[test]
-fn names_are_compared_as_bytes(rt: HostRuntime) -> Result<(), Fail> {
-    const ROWS: &[(&[u8], &[u8], bool)] = &[
-        (b"ann", b"ann", true),
-        (b"ann", b"Ann", false),
-        (b"ann", b"anna", false),
-    ];
-    for &(one, other, same) in ROWS {
-        assert_eq!(rt; Name::read(one)? == Name::read(other)?, same);
-    }
-    Ok(())
-}
-
-#[test]
-fn clients_are_compared_by_all_four_fields(rt: HostRuntime) -> Result<(), Fail> {
-    let ann = Client {
-        user: Name::read(b"ann")?,
-        host: Name::read(b"h1")?,
-        display: Name::read(b"d1")?,
-        project: Name::read(b"p1")?,
-    };
-    let elsewhere = Client {
-        project: Name::read(b"p2")?,
-        ..ann
-    };
-    assert!(rt; ann == ann);
-    assert!(rt; ann != elsewhere);
-    Ok(())
-}
-
-fn same_text(rt: &impl Abort, name: &Name, text: &str) -> Result<(), Fail> {
-    assert!(rt; name.bytes() == text.as_bytes());
-    Ok(())
-}
-
-#[test]
-fn a_group_is_copied_whole(rt: HostRuntime) -> Result<(), Fail> {
-    let members = [Name::read(b"ann")?, Name::read(b"bob")?].to_vec(rt.alloc())?;
-    let group = Group::of(3, true, Name::read(b"lab")?, members);
-    let copy = group.copy(rt.alloc())?;
-    assert_eq!(rt; copy.line(), 3);
-    assert!(rt; copy.of_hosts());
-    same_text(&rt, copy.name(), "lab")?;
-    assert!(rt; copy.members() == group.members());
-    assert_eq!(rt; copy.members().len(), 2);
-    Ok(())
 }
 
 #[test]

@@ -1,4 +1,3 @@
-use lic_types::{Client, Name, Version};
 use options_machine::Kind;
 use script_text::read_script;
 use std::test::Fail;
@@ -30,30 +29,6 @@ fn a_script_of_every_verb(rt: HostRuntime) -> Result<(), Fail> {
         assert_eq!(rt; found.kind(), kind);
         assert_eq!(rt; found.feature().is_some(), feature);
         assert_eq!(rt; found.version().is_some(), version);
-    }
-    Ok(())
-}
-
-/// A checkout names a version, and another line doesn't.
-#[test]
-fn the_client_the_feature_and_the_version(rt: HostRuntime) -> Result<(), Fail> {
-    let script = read_script(
-        rt.alloc(),
-        b"0 0 ann h1 d1 p1 CHECKOUT edit 1.0\n9 0 ann h1 d1 p1 QUIT edit\n",
-    )?;
-    let client = Client {
-        user: Name::read(b"ann")?,
-        host: Name::read(b"h1")?,
-        display: Name::read(b"d1")?,
-        project: Name::read(b"p1")?,
-    };
-    let versions = [Some(Version { key: 1_000_000_000 }), None];
-    assert_eq!(rt; script.len(), 2);
-    for (found, version) in script.iter().zip(versions) {
-        let feature = found.feature().ok_or("no feature")?;
-        assert_eq!(rt; found.client(), client);
-        assert_eq!(rt; feature.name(), Name::read(b"edit")?);
-        assert_eq!(rt; found.version(), version);
     }
     Ok(())
 }

@@ -182,28 +182,3 @@ fn limit_of_a_line(rt: HostRuntime) -> Result<(), Fail> {
     }
     Ok(())
 }
-
-#[test]
-fn numbers(rt: HostRuntime) {
-    const CASES: &[(&[u8], Option<u64>)] = &[
-        (b"", None),
-        (b"0", Some(0)),
-        (b"7", Some(7)),
-        (b"0042", Some(42)),
-        (b"18446744073709551615", Some(18_446_744_073_709_551_615)),
-        (b"18446744073709551616", None),
-        (b"18446744073709551620", None),
-        (b"99999999999999999999999", None),
-        (
-            b"00000000000000000000018446744073709551615",
-            Some(18_446_744_073_709_551_615),
-        ),
-        (b"+1", None),
-        (b"-0", None),
-        (b"1 ", None),
-        (b"1a", None),
-    ];
-    for &(word, value) in CASES {
-        assert_eq!(rt; number(word), value, "of {word:?}");
-    }
-}

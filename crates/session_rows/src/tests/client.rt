@@ -1,5 +1,5 @@
 //! What a client says, hears and prints.
-use client_talk::{Client, Errand, Hold, Pace, read_glance, run};
+use client_talk::{Client, Errand, Hold, Pace, run};
 use outside::MemSink;
 use session_outside::{Feed, MemBell, MemClock, MemLink, Talk};
 use std::alloc::{AllocError, Global};
@@ -77,38 +77,4 @@ fn a_seat_is_waited_for_and_kept_by_the_clock(rt: HostRuntime) -> Result<(), Fai
     let printed = b"QUEUED 2 #4\nGRANTED SEAT 0 OPEN #7\nRETURNED #9\n";
     assert!(&rt; out.bytes.as_slice() == printed.as_slice());
     Ok(())
-}
-
-#[test]
-fn the_line_of_any_numbers_is_read_and_no_other(rt: HostRuntime) {
-    const ROWS: &[(&[u8], Option<(u64, u32)>)] = &[
-        (
-            b"GLANCE FRONT 0 HELD 0 LINGERING 0 OPEN 0 OF 0 QUEUED 0",
-            Some((0, 0)),
-        ),
-        (
-            b"GLANCE FRONT 18446744073709551615 HELD 1 LINGERING 2 OPEN 3 OF 4 QUEUED 4294967295",
-            Some((18_446_744_073_709_551_615, 4_294_967_295)),
-        ),
-        (
-            b"GLANCE FRONT 18446744073709551616 HELD 0 LINGERING 0 OPEN 0 OF 0 QUEUED 0",
-            None,
-        ),
-        (
-            b"GLANCE FRONT 0 HELD 0 LINGERING 0 OPEN 0 OF 0 QUEUED 4294967296",
-            None,
-        ),
-        (
-            b"GLANCE FRONT 00 HELD 0 LINGERING 0 OPEN 0 OF 0 QUEUED 0",
-            None,
-        ),
-        (
-            b"GLANCE FRONT 0 HELD 0 LINGERING 0 OPEN 0 OF 0 QUEUED 0 ",
-            None,
-        ),
-    ];
-    for &(line, wanted) in ROWS {
-        let read = read_glance(line).map(|glance| (glance.front, glance.queued));
-        assert_eq!(&rt; read, wanted);
-    }
 }

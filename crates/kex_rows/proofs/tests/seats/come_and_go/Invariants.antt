@@ -1,5 +1,5 @@
 use Rattle.std.proofs.Common.{◌≡◌}
-use Rattle.kex_rows.proofs.tests.seats.threads.come_and_go.Given as goal
+use Rattle.kex_rows.proofs.tests.seats.come_and_go.Given as goal
 
 abbrev pub invariant-loop-round : goal.invariant-loop-round
 invariant-loop-round g l = l.out.table ≡ l.seats

@@ -1,5 +1,0 @@
-use Rattle.std.proofs.Common.{refl}
-use Rattle.office_rows.proofs.tests.offices.quit.Goals as goal
-
-pub returns : goal.returns
-returns g c = (c.ask.ensures.same_desk c.args.desk.now c.requires, (c.ask.ensures.asks.1.enters.quit refl).0)
