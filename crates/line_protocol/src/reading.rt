@@ -9,7 +9,7 @@ ghost use Rattle.line_protocol.specs.Requests.{asked_of, client_of, feature_of, 
 
 use crate::wire::{Wire, WireFault};
 use lic_text::{Words, number, words_in};
-use lic_types::{Client, Name, Version};
+use lic_types::{ClientRef, NameRef, Version};
 
 /// The numbers of rule sets are below this.
 const SET_END: u64 = 1 << 32;
@@ -42,9 +42,9 @@ pub(crate) enum Verb {
 }
 
 /// A feature and the least version that is good enough.
-#[derive(Clone, Copy)]
-pub(crate) struct Seat {
-    feature: Name,
+#[derive(Drop)]
+pub(crate) struct Seat<'a> {
+    feature: NameRef<'a>,
     version: Version,
 }
 
@@ -66,11 +66,14 @@ fn end_words(words: Words<'_>) -> Result<(), WireFault>
     Ok(())
 }
 
-/// The name that a word spells.
-fn read_name(word: &[u8]) -> Result<Name, WireFault>
+/// The name that a word spells, which stays in the line.
+fn read_name(word: &[u8]) -> Result<NameRef<'_>, WireFault>
     ensures { result ≡ name_or_fault (name_of word.now) }
 {
-    Name::read(word).map_err(|_| WireFault::BadName)
+    match NameRef::read(word) {
+        Ok(name) => Ok(name),
+        Err(_) => Err(WireFault::BadName),
+    }
 }
 
 /// The version that a word spells.
@@ -80,25 +83,20 @@ fn read_version(word: &[u8]) -> Result<Version, WireFault>
     Version::read(word).ok_or(WireFault::BadVersion)
 }
 
-/// The client of these four names.
-fn read_client(
-    user: &[u8],
-    host: &[u8],
-    display: &[u8],
-    project: &[u8],
-) -> Result<Client, WireFault>
+/// The client of these four names, which stay in the line.
+fn read_client<'a>(
+    user: &'a [u8],
+    host: &'a [u8],
+    display: &'a [u8],
+    project: &'a [u8],
+) -> Result<ClientRef<'a>, WireFault>
     ensures { result ≡ client_of user.now host.now display.now project.now }
 {
     let user = read_name(user)?;
     let host = read_name(host)?;
     let display = read_name(display)?;
     let project = read_name(project)?;
-    Ok(Client {
-        user,
-        host,
-        display,
-        project,
-    })
+    Ok(ClientRef::of(user, host, display, project))
 }
 
 /// The request that a word stands for.
@@ -133,7 +131,7 @@ fn read_verb(verb: &[u8]) -> Result<Verb, WireFault>
 }
 
 /// The client that the last words name.
-fn read_hello(words: Words<'_>) -> Result<Wire, WireFault>
+fn read_hello(words: Words<'_>) -> Result<Wire<'_>, WireFault>
     ensures { result ≡ asked_of Verb.Hello (words_left words.entry) }
 {
     let mut words = words;
@@ -146,7 +144,7 @@ fn read_hello(words: Words<'_>) -> Result<Wire, WireFault>
 }
 
 /// The feature and the version that are the last words.
-fn read_seat(words: Words<'_>) -> Result<Seat, WireFault>
+fn read_seat(words: Words<'_>) -> Result<Seat<'_>, WireFault>
     ensures { result ≡ seat_of (words_left words.entry) }
 {
     let mut words = words;
@@ -159,7 +157,7 @@ fn read_seat(words: Words<'_>) -> Result<Seat, WireFault>
 }
 
 /// The feature that is the last word.
-fn read_feature(words: Words<'_>) -> Result<Name, WireFault>
+fn read_feature(words: Words<'_>) -> Result<NameRef<'_>, WireFault>
     ensures { result ≡ feature_of (words_left words.entry) }
 {
     let mut words = words;
@@ -189,7 +187,7 @@ fn read_set(words: Words<'_>) -> Result<u32, WireFault>
 }
 
 /// What is asked by a verb and the words behind it.
-fn read_asked(verb: Verb, words: Words<'_>) -> Result<Wire, WireFault>
+fn read_asked(verb: Verb, words: Words<'_>) -> Result<Wire<'_>, WireFault>
     ensures { result ≡ asked_of verb (words_left words.entry) }
 {
     match verb {
@@ -232,7 +230,7 @@ fn is_printable(line: &[u8]) -> bool
 }
 
 /// What words ask.
-fn read_words(words: Words<'_>) -> Result<Wire, WireFault>
+fn read_words(words: Words<'_>) -> Result<Wire<'_>, WireFault>
     ensures { result ≡ wire_of_words (words_left words.entry) }
 {
     let mut words = words;
@@ -247,8 +245,9 @@ fn read_words(words: Words<'_>) -> Result<Wire, WireFault>
 ///
 /// The first fault of these is told: a byte that isn't from 32 to 126; no word; a first word that is no request;
 /// another number of words than the request has; a name that is none; a version that is none; a number that is none, or
-/// not below 2^32. The grammar and the order of the faults are this project's own.
-pub fn read_request(line: &[u8]) -> Result<Wire, WireFault>
+/// not below 2^32. The grammar and the order of the faults are this project's own. The names that it gives stay in the
+/// line, so that no byte of them is copied.
+pub fn read_request(line: &[u8]) -> Result<Wire<'_>, WireFault>
     ensures { result ≡ request_of line.now }
 {
     if !is_printable(line) {

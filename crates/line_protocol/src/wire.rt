@@ -2,28 +2,28 @@
 ghost use Rattle.std.specs.Prelude.{◌≡◌};
 ghost use Rattle.line_protocol.specs.Requests.{number_of_fault};
 
-use lic_types::{Client, Name, Version};
+use lic_types::{ClientRef, NameRef, Version};
 use thiserror::Error;
 
-/// What a line of a client asks.
-#[derive(Clone, Copy, Debug, PartialEq, Eq)]
-pub enum Wire {
+/// What a line of a client asks. Its names stand in the line, and are copied when they are asked for.
+#[derive(Drop)]
+pub enum Wire<'a> {
     /// `HELLO user host display project`: who the client is.
-    Hello(Client),
+    Hello(ClientRef<'a>),
     /// `CHECKOUT feature version`: a seat, now or not at all.
-    Checkout(Name, Version),
+    Checkout(NameRef<'a>, Version),
     /// `QUEUE feature version`: a seat, or else a place in the queue.
-    Queue(Name, Version),
+    Queue(NameRef<'a>, Version),
     /// `CHECKIN feature`: to give the seat, or the place in the queue, back.
-    Checkin(Name),
+    Checkin(NameRef<'a>),
     /// `BEAT feature`: to be heard.
-    Beat(Name),
+    Beat(NameRef<'a>),
     /// `LOOK feature`: whether the session has a seat.
-    Look(Name),
+    Look(NameRef<'a>),
     /// `STATUS feature`: the numbers of the desk.
-    Status(Name),
+    Status(NameRef<'a>),
     /// `GLANCE feature`: the numbers of the desk as they were published last.
-    Glance(Name),
+    Glance(NameRef<'a>),
     /// `REREAD number`: that the rule set of this number holds from now on.
     Reread(u32),
     /// `QUIT`: the end of the session.

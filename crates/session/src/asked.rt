@@ -2,27 +2,27 @@
 ghost use Rattle.std.specs.Prelude.{◌≡◌, None};
 ghost use Rattle.session.specs.Table.{input_of, is_meant};
 
-use lic_types::{Client, Name, Version};
+use lic_types::{ClientRef, NameRef, Version};
 use line_protocol::Wire;
 use options_machine::Kind;
 
 /// A feature request: what is asked of which feature, and from which version on where a seat is asked for.
-#[derive(Clone, Copy)]
-pub(crate) struct Feature {
+#[derive(Drop)]
+pub(crate) struct Feature<'a> {
     pub(crate) kind: Kind,
-    pub(crate) name: Name,
+    pub(crate) name: NameRef<'a>,
     pub(crate) version: Option<Version>,
 }
 
-/// What a session does with a request.
-#[derive(Clone, Copy)]
-pub(crate) enum Input {
+/// What a session does with a request. Its names stand in the line of the request.
+#[derive(Drop)]
+pub(crate) enum Input<'a> {
     /// It makes a client known.
-    Hello(Client),
+    Hello(ClientRef<'a>),
     /// It asks a desk.
-    Ask(Feature),
+    Ask(Feature<'a>),
     /// It glances at a desk.
-    Glance(Name),
+    Glance(NameRef<'a>),
     /// It asks all desks for a rule set.
     Reread(u32),
     /// It ends.
@@ -55,8 +55,8 @@ impl Whom {
 }
 
 /// What a session does with a request.
-pub(crate) fn input_of(request: Wire) -> Input
-    ensures { result ≡ input_of request }
+pub(crate) fn input_of(request: Wire<'_>) -> Input<'_>
+    ensures { result ≡ input_of request.entry }
 {
     match request {
         Wire::Hello(client) => Input::Hello(client),
@@ -82,8 +82,8 @@ pub(crate) fn input_of(request: Wire) -> Input
 }
 
 /// A request of a feature, whatever its version.
-fn of_feature(kind: Kind, name: Name) -> Input
-    ensures { result ≡ Input.Ask (record { kind = kind; name = name; version = None }) }
+fn of_feature(kind: Kind, name: NameRef<'_>) -> Input<'_>
+    ensures { result ≡ Input.Ask (record { kind = kind; name = name.entry; version = None }) }
 {
     Input::Ask(Feature {
         kind,

@@ -12,18 +12,18 @@ ghost use Rattle.session.specs.declared.asked.Whom.TheVariants.{Keeping};
 
 use counter::Counter;
 use feature_lines::{Found, Pool};
-use lic_types::{Name, Version};
+use lic_types::{NameRef, Version};
 use office_view::OfficeView;
 
 /// Whether a pool is of the name, and its counter is holding or queued.
-fn keeps<C: Counter>(pool: &Pool, counter: &C, name: &Name) -> bool
+fn keeps<C: Counter>(pool: &Pool, counter: &C, name: &NameRef<'_>) -> bool
     ensures { result ≡ (same_name pool.now.name name.now && is_meant_at Keeping (C.account counter.now)) }
 {
-    pool.name == *name && (counter.holding() || counter.queued())
+    pool.name.bytes() == name.bytes() && (counter.holding() || counter.queued())
 }
 
 /// The first pool of the name at which the session is holding or queued.
-fn kept_pool<C: Counter>(pools: &[Pool], pass: &[C], name: &Name) -> Option<usize>
+fn kept_pool<C: Counter>(pools: &[Pool], pass: &[C], name: &NameRef<'_>) -> Option<usize>
     requires { length pass.now ≡ length pools.now }
     ensures pool { (o : Setup) (before : List Act) → Keeps C.account o pools.now before pass.now → result ≡ kept_pool o before name.now }
     ensures within { IfSome result (λ i. i < length pools.now) }
@@ -36,14 +36,16 @@ fn kept_pool<C: Counter>(pools: &[Pool], pass: &[C], name: &Name) -> Option<usiz
     None
 }
 
-/// Where a request goes whose session keeps no place at a pool of that name.
-fn routed<D>(office: &OfficeView<D>, name: &Name, at: u64, version: Option<Version>) -> Found
+/// Where a request goes whose session keeps no place at a pool of that name. The office is asked with a copy of the
+/// name.
+fn routed<D>(office: &OfficeView<D>, name: &NameRef<'_>, at: u64, version: Option<Version>) -> Found
     ensures found { result ≡ found_by_route office.now.pools name.now at version }
     ensures there { IsThere (length office.now.pools) result }
 {
+    let name = name.name();
     match version {
-        Some(version) => office.route(name, version, at),
-        None => match office.first(name) {
+        Some(version) => office.route(&name, version, at),
+        None => match office.first(&name) {
             Some(i) => Found::Pool(i),
             None => Found::Unknown,
         },
@@ -54,7 +56,7 @@ fn routed<D>(office: &OfficeView<D>, name: &Name, at: u64, version: Option<Versi
 pub(crate) fn find<C: Counter>(
     office: &OfficeView<C::Desk>,
     pass: &[C],
-    name: &Name,
+    name: &NameRef<'_>,
     at: u64,
     version: Option<Version>,
 ) -> Found
@@ -72,7 +74,7 @@ pub(crate) fn find<C: Counter>(
 pub(crate) fn find_shown<C: Counter>(
     office: &OfficeView<C::Desk>,
     pass: &[C],
-    name: &Name,
+    name: &NameRef<'_>,
 ) -> Option<usize>
     requires { length pass.now ≡ length office.now.pools }
     ensures found { (o : Setup) (before : List Act) → Agrees C.account office.now o before pass.now → result ≡ or_else (kept_pool o before name.now) (first_named o.pools name.now) }
@@ -80,6 +82,6 @@ pub(crate) fn find_shown<C: Counter>(
 {
     match kept_pool(office.pools(), pass, name) {
         Some(i) => Some(i),
-        None => office.first(name),
+        None => office.first(&name.name()),
     }
 }

@@ -15,7 +15,7 @@ use crate::finding::{find, find_shown};
 use crate::talking::{first_party, say, say_stopping};
 use counter::Counter;
 use feature_lines::Found;
-use lic_types::{Client, Name};
+use lic_types::{Client, NameRef};
 use line_protocol::{Told, read_request};
 use office_view::OfficeView;
 use options_machine::Kind;
@@ -33,7 +33,7 @@ fn serve_feature<R: Wait, C: Counter, L: Link, K: Clock, G: Gate, B: Bell>(
     bell: &mut B,
     text: &mut [u8; 160],
     client: &Client,
-    asked: &Feature,
+    asked: &Feature<'_>,
 ) -> Option<SessionEnd>
     requires of { AreOf C.is_of C.account pass.old office.now }
     requires fits { set_asked asked.now.kind ≡ None }
@@ -68,7 +68,7 @@ fn show<R: Wait, C: Counter, L: Link, K: Clock, G: Gate, B: Bell>(
     gate: &mut G,
     bell: &mut B,
     text: &mut [u8; 160],
-    name: &Name,
+    name: &NameRef<'_>,
 ) -> Option<SessionEnd>
     requires { AreOf C.is_of C.account pass.old office.now }
     ensures shown { (o : Setup) (before : List Act) → Agrees C.account office.now o before pass.old →
@@ -170,7 +170,7 @@ fn obey<R: Wait, C: Counter, L: Link, K: Clock, G: Gate, B: Bell>(
     bell: &mut B,
     text: &mut [u8; 160],
     client: &Client,
-    input: &Input,
+    input: &Input<'_>,
 ) -> Option<SessionEnd>
     requires of { AreOf C.is_of C.account pass.old office.now }
     requires fits { AsksNoSet input.now }
@@ -223,7 +223,7 @@ fn meet<R: Wait, C: Counter, L: Link, K: Clock, G: Gate, B: Bell>(
     bell: &mut B,
     text: &mut [u8; 160],
     client: &mut Option<Client>,
-    input: &Input,
+    input: &Input<'_>,
 ) -> Option<SessionEnd>
     requires of { AreOf C.is_of C.account pass.old office.now }
     requires stranger { client.old ≡ None }
@@ -233,7 +233,7 @@ fn meet<R: Wait, C: Counter, L: Link, K: Clock, G: Gate, B: Bell>(
 {
     match input {
         Input::Hello(who) => {
-            *client = Some(*who);
+            *client = Some(who.client());
             let party = first_party(pass);
             say(rt, link, gate, text, &Told::Welcome(party), None)
         }

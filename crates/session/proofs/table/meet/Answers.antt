@@ -1,4 +1,4 @@
-use Rattle.std.proofs.Common.{◌≡◌, ◌∙◌, ◌∷◌, [], Option, Some, None, refl, sym, subst}
+use Rattle.std.proofs.Common.{◌≡◌, ◌∙◌, ◌∷◌, [], Option, Some, None, ap, sym, subst}
 use Rattle.lic_types.specs.declared.client.Client.{Client}
 use Rattle.line_protocol.specs.declared.told.Told.TheVariants as told
 use Rattle.session.specs.Acts.{Ring}
@@ -16,7 +16,7 @@ returns-in-Hello-clause-met g c = λ o before agrees.
     let written : Writes (told.Welcome (party_at o 0)) None w.0 c.say.result = subst (λ n. Writes (told.Welcome n) None w.0 c.say.result) party w.1 in (
       w.0,
       did_writes g.C.Counter.account g.L.Link.tells g.L.Link.faults g.L.Link.quiets g.K.Clock.gave g.B.Bell.answered g.B.Bell.tolls g.B.Bell.rings (told.Welcome (party_at o 0)) None c.say.result w.0 c.args.pass.now c.args.link.now c.say.new.link c.args.clock.now c.args.bell.now written w.2 w.3,
-      subst (λ (i : Input). Meets o before i w.0 (Some c.in-Hello.who) c.say.result) (sym c.in-Hello.is) (refl, written),
+      subst (λ (i : Input). Meets o before i w.0 (Some c.client.result) c.say.result) (sym c.in-Hello.is) (ap (λ (who : Client). Some who) c.client.ensures, written),
     )
 
 pub returns-in-Quit-clause-met : goal.returns-in-Quit-clause-met
