@@ -11,7 +11,7 @@ def seconds(call, passes, rounds):
     """The processor time of one run, which what else the machine does disturbs little."""
     child = os.posix_spawn(
         PROGRAM,
-        [PROGRAM, "board", call, str(passes), str(rounds)],
+        [PROGRAM, call, str(passes), str(rounds)],
         os.environ,
         file_actions=[(os.POSIX_SPAWN_OPEN, 1, os.devnull, os.O_WRONLY, 0)],
     )

@@ -45,7 +45,7 @@ for path in (TREE, GATE):
         sys.exit(f"bench: {path} isn't built")
 for n, k in [(16, 4), (64, 4), (240, 16)]:
     for threads in (1, 4, 16):
-        tree, gate = [TREE, "seats", "tree", str(n), str(k)], [GATE, "gate", str(n), str(k)]
+        tree, gate = [TREE, "tree", str(n), str(k)], [GATE, "gate", str(n), str(k)]
         of_tree, of_gate = rounds_of(tree, threads), rounds_of(gate, threads)
         runs = [(run(tree, threads, of_tree), run(gate, threads, of_gate)) for _ in range(RUNS)]
         tree_rate, tree_told = told_of("tree", [t for t, _ in runs], threads * of_tree)

@@ -9,7 +9,7 @@ def seconds(kind, room, rounds):
     """The processor time of one run, which what else the machine does disturbs little."""
     child = os.posix_spawn(
         PROGRAM,
-        [PROGRAM, "clock", kind, str(room), str(rounds)],
+        [PROGRAM, kind, str(room), str(rounds)],
         os.environ,
         file_actions=[(os.POSIX_SPAWN_OPEN, 1, os.devnull, os.O_WRONLY, 0)],
     )

@@ -7,7 +7,7 @@ PROGRAM = sys.argv[1] if len(sys.argv) > 1 else "crates/desk_bench/out/desk_benc
 
 
 def words(kind, n, k, threads, rounds):
-    return [PROGRAM, "seats", kind, str(n), str(k), str(threads), str(rounds)]
+    return [PROGRAM, kind, str(n), str(k), str(threads), str(rounds)]
 
 
 def seconds(kind, n, k, threads, rounds):

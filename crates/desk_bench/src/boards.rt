@@ -1,30 +1,21 @@
 //! Publishings to a board and glances at it.
-ghost use Rattle.std.specs.Prelude.{◌≡◌, ◌≤◌, []};
+ghost use Rattle.std.specs.Prelude.{◌≡◌, []};
 ghost use Rattle.stat_board.specs.OneSeat.{one_seat, IsIdle};
 
-use anyhow::{Context, Result, bail, ensure};
+use anyhow::{Result, bail, ensure};
 use lic_types::{Client, Name};
 use options_machine::{Entry, Kind, Reply, Request};
 use stat_board::{Board, BoardPass, Glance, Ruling};
 use std::alloc::Global;
-use std::env::Args;
 use std::sync::Wait;
 
 /// Which call is made in a round.
 #[derive(Clone, Copy)]
-enum Call {
+pub enum Call {
+    /// A publishing.
     Publish,
+    /// A glance.
     Glance,
-}
-
-impl Call {
-    fn of(word: &str) -> Result<Call> {
-        match word {
-            "publish" => Ok(Call::Publish),
-            "glance" => Ok(Call::Glance),
-            _ => bail!("neither publish nor glance"),
-        }
-    }
 }
 
 /// The desk has one seat.
@@ -106,11 +97,11 @@ fn run<R: Wait>(
     last
 }
 
-/// The front that is read behind the calls of these words.
-pub fn front_of_board<R: Wait>(rt: &R, alloc: Global, mut words: Args) -> Result<u64> {
-    let call = Call::of(words.next().context("no call")?.as_str())?;
-    let n: u32 = words.next().context("no number of passes")?.parse()?;
-    let rounds: u32 = words.next().context("no number of rounds")?.parse()?;
+/// The front that is read behind so many calls, with the numbers of passes and of rounds.
+pub fn front_of_board<R: Wait>(rt: &R, alloc: Global, call: Call, numbers: &[u32]) -> Result<u64> {
+    let &[n, rounds] = numbers else {
+        bail!("not two numbers")
+    };
     ensure!(1 <= n && n <= 256, "not from 1 to 256 passes");
     let name = Name::read(b"ann")?;
     let client = Client {

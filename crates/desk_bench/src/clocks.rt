@@ -1,24 +1,17 @@
 //! Calls of a full clock of lingering seats.
 ghost use Rattle.std.specs.Prelude.{◌<◌};
 
-use anyhow::{Context, Result, bail, ensure};
+use anyhow::{Result, bail, ensure};
 use linger_clock::Clock;
 use std::alloc::Global;
-use std::env::Args;
 
 /// Which call goes with `add` in a round.
 #[derive(Clone, Copy)]
-enum Kind {
+pub enum Taking {
+    /// The first deadline is taken out.
     Settle,
+    /// That of an owner is taken out whom a generator picks.
     Remove,
-}
-
-fn kind_of(word: &str) -> Result<Kind> {
-    match word {
-        "settle" => Ok(Kind::Settle),
-        "remove" => Ok(Kind::Remove),
-        _ => bail!("neither settle nor remove"),
-    }
 }
 
 /// The next state of Knuth's 64-bit linear congruential generator (MMIX).
@@ -42,7 +35,7 @@ fn fill(clock: &mut Clock, room: u32) -> u64 {
     state
 }
 
-fn rounds(clock: &mut Clock, kind: Kind, room: u32, count: u32) -> u64
+fn rounds(clock: &mut Clock, taking: Taking, room: u32, count: u32) -> u64
     requires { 0 < room }
 {
     let mut state = fill(clock, room);
@@ -50,9 +43,9 @@ fn rounds(clock: &mut Clock, kind: Kind, room: u32, count: u32) -> u64
     for _ in 0..count {
         state = next(state);
         let picked = (state >> 33) % u64::from(room);
-        let taken = match kind {
-            Kind::Settle => clock.settle(u64::MAX),
-            Kind::Remove => clock.remove(picked).map(|_| picked),
+        let taken = match taking {
+            Taking::Settle => clock.settle(u64::MAX),
+            Taking::Remove => clock.remove(picked).map(|_| picked),
         };
         if let Some(owner) = taken {
             sum = sum.wrapping_add(owner);
@@ -62,12 +55,12 @@ fn rounds(clock: &mut Clock, kind: Kind, room: u32, count: u32) -> u64
     sum
 }
 
-/// The sum of the owners that the calls of these words take out, modulo 2^64.
-pub fn owners_of_clock(alloc: Global, mut words: Args) -> Result<u64> {
-    let kind = kind_of(words.next().context("no kind")?.as_str())?;
-    let room: u32 = words.next().context("no room")?.parse()?;
-    let count: u32 = words.next().context("no count")?.parse()?;
+/// The sum of the owners that are taken out, modulo 2^64, with the numbers of the room and of rounds.
+pub fn owners_of_clock(alloc: Global, taking: Taking, numbers: &[u32]) -> Result<u64> {
+    let &[room, count] = numbers else {
+        bail!("not two numbers")
+    };
     ensure!(room > 0, "a room of 0");
     let mut clock = Clock::make(alloc, room)?;
-    Ok(rounds(&mut clock, kind, room, count))
+    Ok(rounds(&mut clock, taking, room, count))
 }

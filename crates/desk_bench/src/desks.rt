@@ -1,11 +1,11 @@
 //! Pairs of a checkout and a check-in on a desk.
-ghost use Rattle.std.specs.Prelude.{◌≡◌, ◌<◌, ◌≤◌, All, IfOk, length, vec_len};
+ghost use Rattle.std.specs.Prelude.{◌≡◌, ◌<◌, All, IfOk, length, vec_len};
 ghost use Rattle.options_machine.specs.Run.{IsBelow};
 ghost use Rattle.options_machine.specs.Step.{set_asked};
 ghost use Rattle.feature_desk.specs.Closings.{IsKeeperOf, Rests};
 ghost use Rattle.feature_desk.specs.Sitters.{IsOf};
 
-use anyhow::{Context, Result, ensure};
+use anyhow::{Result, bail, ensure};
 use counter::Counter;
 use feature_desk::{Desk, DeskKeeper, DeskPass};
 use feature_lines::Pool;
@@ -15,17 +15,17 @@ use options_machine::Kind;
 use options_text::read_options;
 use policy::DeskRules;
 use std::alloc::Global;
-use std::env::Args;
 use std::sync::Wait;
 use std::thread::{Threads, for_each_mut};
 
 /// The pool of so many licences.
 fn pool(count: u32) -> Result<Pool> {
+    let name = Name::read(b"1.0")?;
     Ok(Pool {
-        name: Name::read(b"edit")?,
+        name,
         version: Version { key: 1_000_000_000 },
-        version_text: Name::read(b"1.0")?,
-        vendor: Name::read(b"acme")?,
+        version_text: name,
+        vendor: name,
         expiry: Expiry::Never,
         count,
         line: 1,
@@ -34,11 +34,12 @@ fn pool(count: u32) -> Result<Pool> {
 
 /// A client of no importance.
 fn client() -> Result<Client> {
+    let name = Name::read(b"n")?;
     Ok(Client {
-        user: Name::read(b"u")?,
-        host: Name::read(b"h")?,
-        display: Name::read(b"d")?,
-        project: Name::read(b"p")?,
+        user: name,
+        host: name,
+        display: name,
+        project: name,
     })
 }
 
@@ -136,26 +137,19 @@ fn all_at_once<R: Threads + Wait + Sync>(
     for_each_mut(rt, passes, threads, &asking);
 }
 
-/// The number of the grants that the threads of these words are given.
+/// How many grants the threads are given, with the numbers of threads, of rounds and of licences.
 pub fn grants_of_desk<R: Threads + Wait + Sync>(
     rt: &R,
     alloc: Global,
-    mut words: Args,
+    numbers: &[u32],
 ) -> Result<u64> {
-    let threads: u16 = words.next().context("no number of threads")?.parse()?;
+    let &[threads, rounds, seats] = numbers else {
+        bail!("not three numbers")
+    };
     ensure!(1 <= threads, "no thread");
-    let rounds: u32 = words.next().context("no number of rounds")?.parse()?;
-    let seats: u32 = words.next().context("no number of licences")?.parse()?;
     let client = client()?;
-    let parties = u32::from(threads).max(2);
+    let parties = threads.max(2);
     let (desk, mut passes, keeper) = desk_of(rt, alloc, seats, parties)?;
-    pairs_of_all(
-        rt,
-        &desk,
-        &mut passes,
-        &client,
-        rounds,
-        usize::from(threads),
-    );
+    pairs_of_all(rt, &desk, &mut passes, &client, rounds, threads as usize);
     Ok(desk.close(rt, passes, keeper).grants)
 }

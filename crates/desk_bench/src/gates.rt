@@ -1,10 +1,9 @@
 //! Pairs of enter and leave on the seats behind a fast gate.
 ghost use Rattle.std.specs.Prelude.{◌≡◌};
 
-use anyhow::{Context, Result, ensure};
+use anyhow::{Result, bail, ensure};
 use kex_gate::{GateOut, GatedSeats};
 use std::alloc::Global;
-use std::env::Args;
 use std::sync::Wait;
 use std::thread::{Threads, map_vec};
 
@@ -42,16 +41,15 @@ fn come_and_go<R: Wait>(rt: &R, gate: &GatedSeats, mut out: GateOut, rounds: u32
     count
 }
 
-/// The pairs that the threads of these words make at a gate.
+/// The pairs that the threads make at a gate, with the numbers of sessions, of licences, of threads and of rounds.
 pub fn pairs_at_gate<R: Threads + Wait + Sync>(
     rt: &R,
     alloc: Global,
-    mut words: Args,
+    numbers: &[u32],
 ) -> Result<Pairs> {
-    let n: u32 = words.next().context("no number of sessions")?.parse()?;
-    let k: u32 = words.next().context("no number of licences")?.parse()?;
-    let threads: usize = words.next().context("no number of threads")?.parse()?;
-    let rounds: u32 = words.next().context("no number of rounds")?.parse()?;
+    let &[n, k, threads, rounds] = numbers else {
+        bail!("not four numbers")
+    };
     ensure!(2 <= n && n <= 256 && 1 <= k && k <= 256, "no such gate");
     ensure!(
         2 * k < n,
@@ -59,7 +57,7 @@ pub fn pairs_at_gate<R: Threads + Wait + Sync>(
     );
     ensure!(n + k <= 256, "more than 256 sessions and seats");
     let (gate, mut passes) = GatedSeats::make(alloc, n, k)?;
-    passes.truncate(threads);
+    passes.truncate(threads as usize);
     let shared = &gate;
     let counting = |out: GateOut| -> Pairs
         requires { out.gate ≡ shared.now }

@@ -1,9 +1,8 @@
 //! Calls of a sum behind a ticket lock.
-ghost use Rattle.std.specs.Prelude.{◌≡◌, ◌≤◌, IfOk};
+ghost use Rattle.std.specs.Prelude.{◌≡◌};
 
-use anyhow::{Context, Result, bail, ensure};
+use anyhow::{Result, bail, ensure};
 use std::alloc::Global;
-use std::env::Args;
 use std::sync::Wait;
 use std::thread::{Threads, map_vec};
 use turn_lock::sum::{Addend, Sum};
@@ -21,14 +20,15 @@ fn asks<R: Wait>(rt: &R, turns: &Turns<Sum>, mut pass: TurnPass<Sum>, rounds: u3
     pass
 }
 
-/// The number of the calls that the threads of these words make.
+/// How many calls the threads make, with the numbers of threads and of rounds.
 pub fn calls_of_lock<R: Threads + Wait + Sync>(
     rt: &R,
     alloc: Global,
-    mut words: Args,
+    numbers: &[u32],
 ) -> Result<u64> {
-    let threads: u32 = words.next().context("no number of threads")?.parse()?;
-    let rounds: u32 = words.next().context("no number of rounds")?.parse()?;
+    let &[threads, rounds] = numbers else {
+        bail!("not two numbers")
+    };
     ensure!(1 <= threads && threads <= 256, "not from 1 to 256 threads");
     let Ok((turns, passes)) = Turns::make(alloc, Sum { total: 0 }, threads) else {
         bail!("no memory")

@@ -1,12 +1,11 @@
 //! Pushes into the queue of a log and takes out of it.
 ghost use Rattle.std.specs.Prelude.{◌≡◌};
 
-use anyhow::{Context, Result, ensure};
+use anyhow::{Result, bail, ensure};
 use audit_log::{LogPush, LogTake, log_queue};
 use lic_types::{Client, Name};
 use options_machine::{Entry, Kind, Reply, Request};
 use std::alloc::Global;
-use std::env::Args;
 use std::sync::Wait;
 use std::thread::{Threads, join};
 
@@ -18,11 +17,12 @@ const LOOKS: u64 = 1_000_000_000;
 
 /// An entry of no importance.
 fn entry() -> Result<Entry> {
+    let name = Name::read(b"n")?;
     let client = Client {
-        user: Name::read(b"u")?,
-        host: Name::read(b"h")?,
-        display: Name::read(b"d")?,
-        project: Name::read(b"p")?,
+        user: name,
+        host: name,
+        display: name,
+        project: name,
     };
     Ok(Entry {
         request: Request {
@@ -94,7 +94,7 @@ fn round_of_one<R: Wait>(rt: &R, push: LogPush, take: LogTake, entry: &Entry) ->
 fn rounds_of<R: Threads + Wait + Sync>(
     rt: &R,
     alloc: Global,
-    threads: u8,
+    threads: u32,
     rounds: u32,
 ) -> Result<u64> {
     let entry = entry()?;
@@ -111,14 +111,15 @@ fn rounds_of<R: Threads + Wait + Sync>(
     Ok(total)
 }
 
-/// The number of the entries that come out of the queues of these words.
+/// How many entries come out of the queues, with the numbers of threads and of rounds.
 pub fn entries_of_log<R: Threads + Wait + Sync>(
     rt: &R,
     alloc: Global,
-    mut words: Args,
+    numbers: &[u32],
 ) -> Result<u64> {
-    let threads: u8 = words.next().context("no number of threads")?.parse()?;
-    let rounds: u32 = words.next().context("no number of rounds")?.parse()?;
+    let &[threads, rounds] = numbers else {
+        bail!("not two numbers")
+    };
     ensure!(threads == 1 || threads == 2, "neither one thread nor two");
     rounds_of(rt, alloc, threads, rounds)
 }

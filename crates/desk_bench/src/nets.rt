@@ -1,40 +1,33 @@
 //! Pairs of enter and leave on the seats of a net.
-ghost use Rattle.std.specs.Prelude.{◌≡◌, ◌≤◌, IfOk};
+ghost use Rattle.std.specs.Prelude.{◌≡◌, ◌≤◌};
 
-use anyhow::{Context, Result, bail, ensure};
+use anyhow::{Result, bail, ensure};
 use kex_core::{Net, NoMemory};
 use kex_net::{chain, tree};
 use kex_words::Out;
 use seat_names::Seats;
 use std::alloc::Global;
-use std::env::Args;
 use std::sync::Wait;
 use std::thread::{Threads, map_vec};
 
 /// Which net the seats have.
 #[derive(Clone, Copy)]
-enum Kind {
+pub enum Shape {
+    /// One stage behind another.
     Chain,
+    /// Groups that meet by twos.
     Tree,
 }
 
-fn kind_of(word: &str) -> Result<Kind> {
-    match word {
-        "chain" => Ok(Kind::Chain),
-        "tree" => Ok(Kind::Tree),
-        _ => bail!("neither chain nor tree"),
-    }
-}
-
-impl Kind {
+impl Shape {
     fn net(self, alloc: Global, n: u32, k: u32) -> Result<Net, NoMemory>
         requires two { 2 ≤ n }
         requires small { n ≤ 256 }
         requires licences { 1 ≤ k }
     {
         match self {
-            Kind::Chain => chain(alloc, n, k),
-            Kind::Tree => tree(alloc, n, k),
+            Shape::Chain => chain(alloc, n, k),
+            Shape::Tree => tree(alloc, n, k),
         }
     }
 }
@@ -52,22 +45,22 @@ fn pairs<R: Wait>(rt: &R, seats: &Seats, mut out: Out, rounds: u32) -> u64
     count
 }
 
-/// The number of the pairs that the threads of these words make on the seats of such a net.
+/// How many pairs the threads make on the seats of such a net, with the numbers of parties, of licences, of threads and
+/// of rounds.
 pub fn pairs_on_net<R: Threads + Wait + Sync>(
     rt: &R,
     alloc: Global,
-    mut words: Args,
+    shape: Shape,
+    numbers: &[u32],
 ) -> Result<u64> {
-    let kind = kind_of(words.next().context("no kind")?.as_str())?;
-    let n: u32 = words.next().context("no number of parties")?.parse()?;
-    let k: u32 = words.next().context("no number of licences")?.parse()?;
-    let threads: usize = words.next().context("no number of threads")?.parse()?;
-    let rounds: u32 = words.next().context("no number of rounds")?.parse()?;
+    let &[n, k, threads, rounds] = numbers else {
+        bail!("not four numbers")
+    };
     ensure!(2 <= n && n <= 256, "not from 2 to 256 parties");
     ensure!(1 <= k, "no licence");
-    let net = kind.net(alloc, n, k)?;
+    let net = shape.net(alloc, n, k)?;
     let (seats, mut passes) = Seats::make(alloc, net)?;
-    passes.truncate(threads);
+    passes.truncate(threads as usize);
     let shared = &seats;
     let counting = |out: Out| -> u64
         requires { out.table ≡ shared.now }
