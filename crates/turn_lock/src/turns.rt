@@ -25,7 +25,7 @@ use std::{hint, mem};
 
 /// Who waits looks again soon in the first rounds, after a pause that is twice as long each time, and then sleeps after
 /// each look.
-const SPINS: u32 = 9;
+const SPINS: u32 = 13;
 
 /// The first sleep, in microseconds. Each further one is twice as long, up to the longest.
 const FIRST_NAP: u64 = 50;
@@ -36,7 +36,7 @@ const LONGEST_NAP: u64 = 4_000;
 const DOUBLINGS: u32 = 7;
 
 /// After so many rounds, about a third of a second, a caller draws its ticket all the same.
-const PATIENCE: u32 = 90;
+const PATIENCE: u32 = 94;
 
 /// One sleeper is woken in so many tickets, at most.
 const SPACING: u64 = 32;
