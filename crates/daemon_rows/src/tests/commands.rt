@@ -109,9 +109,13 @@ fn run(
     })
 }
 
+/// An accept fails before the client comes.
 #[test]
 fn a_daemon_writes_what_its_client_was_told(rt: HostRuntime) -> Result<(), Fail> {
-    let first = client(rt.alloc(), WORKS)?;
+    let mut first = faults(rt.alloc(), 1)?;
+    for knock in client(rt.alloc(), WORKS)? {
+        first.push(knock)?;
+    }
     let mut site = site_of(rt.alloc(), first, Vec::new(rt.alloc()))?;
     let ended = run(&rt, &SERVE, &mut site, &[])?;
     let text =
