@@ -5,9 +5,9 @@ ghost use Rattle.options_machine.specs.Rules.{is_named_by};
 ghost use Rattle.lint_advice.specs.Finds.{are_within, first_line, has_pool, idle_max, is_same_feature, is_same_kind, is_same_span, is_same_time, limits_nobody, never_read, no_pool, no_rule, short_timeout, shut_out, shuts_out};
 
 use crate::advice::Advice;
+use crate::naming::is_named_by;
 use feature_lines::Pool;
 use lic_types::{Group, Name, Rule, RuleLine, Who, WhoKind};
-use options_machine::is_named_by;
 
 /// A TIMEOUT line of fewer seconds counts as one of so many.
 const SHORTEST_TIMEOUT: u64 = 900;

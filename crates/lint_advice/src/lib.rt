@@ -6,6 +6,7 @@ mod advice;
 mod cuts;
 mod finds;
 mod lines;
+mod naming;
 mod pools;
 mod text;
 

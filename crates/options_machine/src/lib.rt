@@ -10,7 +10,6 @@ mod decision;
 mod effect;
 mod laws;
 mod limits;
-mod matching;
 mod reply;
 mod rows;
 
@@ -25,6 +24,5 @@ pub use laws::{
     steps_use_their_moment,
 };
 pub use limits::{Cut, Limit};
-pub use matching::{applies, is_named_by, matches};
 pub use reply::{Ask, Charge, Entry, Kind, Reply, Request, Task};
 pub use rows::{Holder, Lingerer, Queuer};

@@ -21,7 +21,7 @@ pub use answers::{glance, step};
 pub use counter::{Asked, Counter, Glance};
 pub use limits::{LentLimit, Limits};
 pub use options_machine::{
-    Charge, Cut, Entry, Holder, Kind, Limit, Lingerer, Queuer, Reply, Request, matches,
+    Charge, Cut, Entry, Holder, Kind, Limit, Lingerer, Queuer, Reply, Request,
 };
 pub use plain::PlainBook;
 pub use reply_words::reply_words;
