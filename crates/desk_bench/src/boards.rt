@@ -4,7 +4,7 @@ ghost use Rattle.stat_board.specs.OneSeat.{one_seat, IsIdle};
 
 use anyhow::{Result, bail, ensure};
 use lic_types::{Client, Name};
-use options_machine::{Entry, Kind, Reply, Request};
+use options_machine::{EntryRef, Kind, Reply, Request};
 use stat_board::{Board, BoardPass, Glance, Ruling};
 use std::alloc::Global;
 use std::sync::Wait;
@@ -43,15 +43,12 @@ fn look<R: Wait>(rt: &R, client: &Client, board: &mut Board)
     ensures sets { board.new.front.sets ≡ one_seat }
     ensures idle { IsIdle board.new.front.list }
 {
-    let looked = Entry {
-        request: Request {
-            party: 0,
-            client: *client,
-            kind: Kind::Look,
-        },
-        moment: 0,
-        reply: Reply::NotHeld,
+    let request = Request {
+        party: 0,
+        client: *client,
+        kind: Kind::Look,
     };
+    let looked = EntryRef::of(&request, 0, Reply::NotHeld);
     board.publish(rt, &looked, OPENING);
 }
 

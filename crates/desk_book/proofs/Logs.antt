@@ -1,6 +1,6 @@
 -- The log of one entry more.
 use Rattle.std.proofs.Common.{◌≡◌, ◌<◌, ◌≤◌, Bool, true, false, ◌||◌, not, nat_lt, List, [], ◌∷◌, ◌++◌, length, take, MatchBool, refl, sym, ap, ◌∙◌, arith}
-use Rattle.std.proofs.lemmas.Bool.{le-ltb, lt-ltb}
+use Rattle.std.proofs.lemmas.Bool.{le-ltb, lt-ltb, ltb-true}
 use Rattle.std.proofs.lemmas.List.{length-append, length-take, take-append-le, take_all}
 use Rattle.options_machine.specs.declared.reply.Entry.{Entry}
 use Rattle.audit_log.specs.declared.queue.TheConstants.{ENTRY_LIMIT}
@@ -8,6 +8,14 @@ use Rattle.audit_log.specs.declared.queue.TheConstants.{ENTRY_LIMIT}
 -- what a push says and does
 abbrev pub Pushes : Bool → List Entry → List Entry → Entry → Type 0
 Pushes told old new e = MatchBool told ((length old < ENTRY_LIMIT) × (new ≡ old ++ e ∷ [])) ((length old ≡ ENTRY_LIMIT) × (new ≡ old))
+
+-- where the log had the first entries of a list, it has those of the list with one entry more
+abbrev pub Logged : List Entry → Bool → List Entry → Entry → Type 0
+Logged old cut new e = (h : List Entry) → old ≡ take ENTRY_LIMIT h → cut ≡ nat_lt ENTRY_LIMIT (length h) → new ≡ take ENTRY_LIMIT (h ++ e ∷ [])
+
+-- where it was known whether that list was longer than the log, it is known of the list with one entry more
+abbrev pub Cuts : List Entry → Bool → Bool → Entry → Type 0
+Cuts old cut now e = (h : List Entry) → old ≡ take ENTRY_LIMIT h → cut ≡ nat_lt ENTRY_LIMIT (length h) → now ≡ nat_lt ENTRY_LIMIT (length (h ++ e ∷ []))
 
 short_of : (h old : List Entry) → old ≡ take ENTRY_LIMIT h → length old < ENTRY_LIMIT → length h < ENTRY_LIMIT
 short_of h old is few = let n = ap length is in omega (arith, length-take ENTRY_LIMIT h)
@@ -30,6 +38,17 @@ or_no false = refl
 or_yes : (b : Bool) → (b || true) ≡ true
 or_yes true = refl
 or_yes false = refl
+
+long_of : (h : List Entry) → true ≡ nat_lt ENTRY_LIMIT (length h) → ENTRY_LIMIT < length h
+long_of h c = ltb-true ENTRY_LIMIT (length h) (sym c)
+
+-- where the list was longer before, the log stays
+pub logged_cut : (h old : List Entry) (e : Entry) → old ≡ take ENTRY_LIMIT h → true ≡ nat_lt ENTRY_LIMIT (length h) → old ≡ take ENTRY_LIMIT (h ++ e ∷ [])
+logged_cut h old e is c = let n = long_of h c in is ∙ sym (take-append-le ENTRY_LIMIT h (e ∷ []) (omega arith))
+
+-- and the list is longer still
+pub still_cut : (h : List Entry) (e : Entry) → true ≡ nat_lt ENTRY_LIMIT (length h) → true ≡ nat_lt ENTRY_LIMIT (length (h ++ e ∷ []))
+still_cut h e c = let n = long_of h c in sym (lt-ltb ENTRY_LIMIT (length (h ++ e ∷ [])) (omega (arith, length-append h (e ∷ []))))
 
 -- whether the longer list is longer than the log
 pub cut_more : (h old new : List Entry) (e : Entry) (cut told : Bool) → old ≡ take ENTRY_LIMIT h → cut ≡ nat_lt ENTRY_LIMIT (length h) → Pushes told old new e → (cut || not told) ≡ nat_lt ENTRY_LIMIT (length (h ++ e ∷ []))

@@ -20,6 +20,7 @@ use Rattle.stat_board.specs.Rule.{Posted}
 use Rattle.stat_board.specs.Shows.{HasNumbers}
 use Rattle.desk_book.specs.declared.book.DeskBook.{DeskBook}
 use Rattle.desk_book.specs.Standing.{Call, Runs, Shows, Stands, at, entries_of, entry_of, law_of}
+use Rattle.desk_book.proofs.Logs.{Cuts, Logged}
 use Rattle.desk_book.proofs.Notes.{Posts, entries_longer, noted_at, opening_kept, shows_more}
 use Rattle.audit_log.specs.declared.queue.TheConstants.{ENTRY_LIMIT}
 
@@ -103,8 +104,8 @@ pub record IsStep (old new : DeskBook) (c : Call) (moment : ℕ) : Type 0 where
   pub used_is : c.used ≡ new.book.state.now
   pub same : new.book.sets ≡ old.book.sets
   pub counted : new.book.grants ≡ (old.book.grants + cond (brings_seat c.answer.reply) 1 0) % 2 ^ 64
-  pub logged : (h : List Entry) → old.log.pushed ≡ take ENTRY_LIMIT h → new.log.pushed ≡ take ENTRY_LIMIT (h ++ entry_of c ∷ [])
-  pub cut_is : (h : List Entry) → old.log.pushed ≡ take ENTRY_LIMIT h → old.cut ≡ nat_lt ENTRY_LIMIT (length h) → new.cut ≡ nat_lt ENTRY_LIMIT (length (h ++ entry_of c ∷ []))
+  pub logged : Logged old.log.pushed old.cut new.log.pushed (entry_of c)
+  pub cut_is : Cuts old.log.pushed old.cut new.cut (entry_of c)
   pub posts : Posts old.board (entry_of c) new.board
   pub note : c.answer.note ≡ new.board.front
 
@@ -115,7 +116,7 @@ stands_more old new c moment h i stood = record {
       ∙ (λ k. after (sym i.same k) (sym (entries_longer h c) k));
   grants_is = i.counted ∙ (ap (λ (n : ℕ). (n + cond (brings_seat c.answer.reply) 1 0) % 2 ^ 64) stood.grants_is ∙ (mod-add-mod (grants (entries_of h)) (2 ^ 64) (cond (brings_seat c.answer.reply) 1 0)
       ∙ ap (λ (n : ℕ). n % 2 ^ 64) (sym (ap grants (entries_longer h c) ∙ grants_longer (entries_of h) (entry_of c)))));
-  logged = i.logged (entries_of h) stood.logged ∙ ap (take ENTRY_LIMIT) (sym (entries_longer h c));
+  logged = i.logged (entries_of h) stood.logged stood.cut_is ∙ ap (take ENTRY_LIMIT) (sym (entries_longer h c));
   cut_is = i.cut_is (entries_of h) stood.logged stood.cut_is ∙ ap (λ (l : List Entry). nat_lt ENTRY_LIMIT (length l)) (sym (entries_longer h c));
   board_shows = shows_more old.board new.board h c i.posts stood.board_shows i.note;
 }

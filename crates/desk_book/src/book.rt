@@ -5,7 +5,7 @@ ghost use Rattle.options_machine.specs.Run.{after};
 
 use crate::logging::log_entry;
 use audit_log::{LogPush, QueueId};
-use options_machine::{Entry, Reply, Request};
+use options_machine::{EntryRef, Reply, Request};
 use policy::DeskRules;
 use seat_book::Book;
 use stat_board::{Board, BoardNote};
@@ -70,11 +70,7 @@ impl Kept for DeskBook {
 
     fn step<R: Wait>(&mut self, rt: &R, request: &Request, moment: u64) -> Stepped<NotedReply> {
         let (reply, used) = self.book.step(request, moment);
-        let entry = Entry {
-            request: *request,
-            moment: used,
-            reply,
-        };
+        let entry = EntryRef::of(request, used, reply);
         self.cut = log_entry(rt, &mut self.log, &entry, self.cut);
         self.board.publish(rt, &entry, self.book.glance(0));
         let answer = NotedReply {

@@ -8,6 +8,7 @@
 
 mod decision;
 mod effect;
+mod entry_ref;
 mod laws;
 mod limits;
 mod reply;
@@ -15,6 +16,7 @@ mod rows;
 
 pub use decision::{Decision, Place};
 pub use effect::Effect;
+pub use entry_ref::EntryRef;
 pub use laws::{
     denials_name_their_line, holders_stand_in_order, max_counts_lingering, moments_are_bounded,
     no_seat_is_left, nothing_is_held, open_stays_free, own_entries_tell, own_is_not_queued,

@@ -3,7 +3,6 @@ ghost use Rattle.std.specs.Prelude.{◌≡◌, ◌⊎◌, ◌++◌, ◌≤◌, f
 ghost use Rattle.lic_types.specs.declared.limits.TheConstants.{PARTY_LIMIT};
 ghost use Rattle.counter.specs.Glances.{glance_of};
 ghost use Rattle.left_right.specs.Sides.{view};
-ghost use Rattle.stat_board.specs.declared.sharing.TheConstants.{READERS};
 ghost use Rattle.stat_board.specs.Fronts.{IsLater, longer};
 ghost use Rattle.stat_board.specs.Rule.{last_of, IsPublished, IsTold};
 ghost use Rattle.stat_board.specs.Shows.{HasNumbers};
@@ -12,13 +11,12 @@ use crate::law::Ruling;
 use crate::list::Head;
 use crate::note::BoardNote;
 use crate::pass::BoardPass;
-use crate::readers::Readers;
 use crate::rule::{NoteReader, NoteWriter, Sees, Telling};
-use crate::sharing::READERS;
+use crate::share::ReaderShare;
 use core::mem::replace_with;
 use counter::Glance;
 use no_memory::NoMemory;
-use options_machine::Entry;
+use options_machine::EntryRef;
 use std::alloc::Global;
 use std::marker::Model;
 use std::sync::Wait;
@@ -46,9 +44,8 @@ impl Model for Board {
 }
 
 impl Board {
-    /// A board with a pass for each of `n` parties, from 1 to 256, and with two readers that the passes share, or one
-    /// where there is one pass. It shows the opening state under the rule sets that `M` tells of `about`, and that is all
-    /// that its passes know.
+    /// A board with a pass for each of `n` parties, from 1 to 256, which share one reader. It shows the opening state
+    /// under the rule sets that `M` tells of `about`, and that is all that its passes know.
     ///
     /// It is refused only where there is too little memory. It waits for nobody, since there is no reader yet.
     pub fn make<R: Wait, X, M: Ruling<X>>(
@@ -68,12 +65,13 @@ impl Board {
     {
         let mut passes = Vec::with_capacity(alloc, n as usize)?;
         let (head, note) = BoardNote::open::<X, M>(about, glance);
-        let mut readers = Readers::vacant(alloc, &note)?;
-        deal(&mut readers, &note, &mut passes, n)?;
-        let count = READERS.min(n as usize);
-        let writer = NoteWriter::new(alloc, note.copy(), note.copy(), count)?;
+        let mut share = ReaderShare::vacant(alloc, &note)?;
+        deal(&mut share, &note, &mut passes, n)?;
+        let writer = NoteWriter::new(alloc, note.copy(), note.copy(), 1)?;
         let (mut writer, ()) = show(writer, rt);
-        fill(&mut readers, &mut writer, &note, count);
+        if let Some(reader) = informed(&mut writer, &note) {
+            share.put(reader);
+        }
         let board = Board {
             head,
             writer,
@@ -85,9 +83,9 @@ impl Board {
     /// Publishes the numbers of the state after one entry more. The Glance's front is set here.
     ///
     /// A board that isn't live stays as it was. Where there is no memory, or a front of 2^64 would be next, the board
-    /// isn't live any more. It looks at each reader, and waits for those who still read what was published before the
+    /// isn't live any more. It looks at the board's reader, and waits for who still reads what was published before the
     /// last.
-    pub fn publish<R: Wait>(&mut self, rt: &R, entry: &Entry, glance: Glance)
+    pub fn publish<R: Wait>(&mut self, rt: &R, entry: &EntryRef<'_>, glance: Glance)
         requires numbers { self.old.live ≡ true → HasNumbers self.old.front.sets (self.old.front.list ++ entry.now ∷ []) glance }
         ensures { ((self.old.live ≡ true) × (self.new ≡ record self.old { front = longer self.old.front (entry.now) })) ⊎ (self.new ≡ record self.old { live = false }) }
     {
@@ -140,37 +138,23 @@ fn show<R: Wait>(writer: NoteWriter, rt: &R) -> (NoteWriter, ())
     (writer, ())
 }
 
-/// Gives each party a pass. All share the readers, of which there are none yet.
+/// Gives each party a pass. All share the reader, which isn't there yet.
 fn deal(
-    readers: &mut Readers,
+    share: &mut ReaderShare,
     note: &BoardNote,
     passes: &mut Vec<BoardPass>,
     n: u32,
 ) -> Result<(), NoMemory>
-    requires opening { readers.old ≡ note.now }
+    requires opening { share.old ≡ note.now }
     requires room { (passes.old.items ≡ []) × (n ≤ vec_capacity passes.old) }
-    ensures opening { readers.new ≡ note.now }
+    ensures opening { share.new ≡ note.now }
     ensures count { IfOk result (λ _. vec_len passes.new ≡ n) }
     ensures passes { IfOk result (λ _. All (λ p. p ≡ note.now) passes.new.items) }
 {
     for _dealt in 0..n {
-        passes.push_reserved(BoardPass::of(note.copy(), readers.share()?));
+        passes.push_reserved(BoardPass::of(note.copy(), share.another()?));
     }
     Ok(())
-}
-
-/// Makes so many readers, which know what was published last.
-fn fill(readers: &mut Readers, writer: &mut NoteWriter, note: &BoardNote, count: usize)
-    requires opening { readers.old ≡ note.now }
-    requires count { count ≤ READERS }
-    requires published { IsPublished writer.old.desk.shown.value (view writer.old.desk.place) (drop writer.old.behind writer.old.log.items) note.now }
-    ensures published { IsPublished writer.new.desk.shown.value (view writer.new.desk.place) (drop writer.new.behind writer.new.log.items) note.now }
-{
-    for number in 0..count {
-        if let Some(reader) = informed(writer, note) {
-            readers.put(number, reader);
-        }
-    }
 }
 
 /// A reader that knows what was published last, where there is a place for one.

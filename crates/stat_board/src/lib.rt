@@ -5,10 +5,10 @@
 //! board's lists each begin with the one before. A [`BoardNote`] says what a party has read; a pass that hears it reads
 //! at least that from then on.
 //!
-//! A board has two readers, or one where there is one party, since a publishing looks at each reader and waits for
-//! those who still read what it is to change. The passes share them: [`BoardPass::glance`] takes one that
-//! nobody else has at that moment, reads the last Glance with it, and puts it back. It waits for nobody. Where all
-//! readers are in use it answers what its pass has read or was told before, so it may be behind.
+//! A board has one reader, since a publishing looks at each reader and waits for those who still read what it is to
+//! change. The passes share it: [`BoardPass::glance`] takes it where nobody else has it, reads the last Glance with it,
+//! and puts it back. It waits for nobody. Where others have the reader at each of some looks it answers what its pass
+//! has read or was told before, so it may be behind.
 #![tactic(auto)]
 
 mod board;
@@ -16,8 +16,8 @@ mod law;
 mod list;
 mod note;
 mod pass;
-mod readers;
 mod rule;
+mod share;
 mod sharing;
 
 pub use board::Board;

@@ -1,6 +1,6 @@
 //! The list of a board, which only grows: nothing keeps it when the program runs, and the board's word has its length.
 use logbook::{Gain, Plain, Play, Rule, Word};
-use options_machine::Entry;
+use options_machine::{Entry, EntryRef};
 
 /// The rule of the book: its word is the length of the list.
 pub(crate) struct Growing;
@@ -47,7 +47,7 @@ impl Play<Entry, u64> for Adding {
 /// What the step asks for: that this entry is added.
 pub(crate) struct Asking;
 
-impl Plain<Entry, Entry, u64> for Asking {
+impl<'a> Plain<EntryRef<'a>, Entry, u64> for Asking {
     ghost use Rattle.std.specs.Prelude.{None};
 
     ghost ask = { λ e. e };

@@ -10,7 +10,7 @@ use crate::list::{Adding, Asking, Growing, Head, Nothing};
 use counter::Glance;
 use left_right::Absorb;
 use logbook::{Offer, Seen, Start, Word};
-use options_machine::Entry;
+use options_machine::{Entry, EntryRef};
 use std::alloc::AllocError;
 use std::marker::Model;
 
@@ -114,7 +114,12 @@ impl BoardNote {
 
     /// The note after one entry more, with these numbers. There is none where the fronts end, or where the board's word
     /// says that an entry was added since.
-    pub(crate) fn next(&self, head: &Head, entry: &Entry, glance: Glance) -> Option<BoardNote>
+    pub(crate) fn next(
+        &self,
+        head: &Head,
+        entry: &EntryRef<'_>,
+        glance: Glance,
+    ) -> Option<BoardNote>
         requires head { head.now ≡ head_of self.now.board }
         requires numbers { HasNumbers self.now.sets (self.now.list ++ entry.now ∷ []) glance }
         ensures { IfSome result (λ n. n ≡ longer self.now (entry.now)) }
@@ -124,9 +129,11 @@ impl BoardNote {
             return None;
         }
         let mut seen = self.seen.again();
-        let mut offer: Offer<Entry, u64, Growing, Nothing> = seen.plain::<Nothing, Entry, Asking>(
-            entry,
-        );
+        let mut offer: Offer<Entry, u64, Growing, Nothing> = seen.plain::<
+            Nothing,
+            EntryRef<'_>,
+            Asking,
+        >(entry);
         let mut pen = seen.no_pen();
         let found = head.compare_exchange::<Adding, Nothing>(
             front,

@@ -4,17 +4,17 @@ ghost use Rattle.stat_board.specs.Fronts.{IsSameBoard, IsLater};
 ghost use Rattle.stat_board.specs.Shows.{IsGlanceOf};
 
 use crate::note::BoardNote;
-use crate::readers::Readers;
+use crate::share::ReaderShare;
 use counter::Glance;
 use std::marker::Model;
 
-/// What a party knows of a board, and the readers by which it sees more, which all passes of the board share.
+/// What a party knows of a board, and the reader by which it sees more, which all passes of the board share.
 ///
 /// Contracts see it as the `Front` that it knows: the one with the longest list of those that it read or was told of.
 #[derive(Drop)]
 pub struct BoardPass {
     known: BoardNote,
-    readers: Readers,
+    share: ReaderShare,
 }
 
 impl Model for BoardPass {
@@ -24,27 +24,28 @@ impl Model for BoardPass {
 
     ghost view = { λ p. p.known };
 
-    ghost invariant = { λ p. IsSameBoard p.known p.readers };
+    ghost invariant = { λ p. IsSameBoard p.known p.share };
 }
 
 impl BoardPass {
-    /// A pass that knows a front of the board of these readers.
-    pub(crate) fn of(known: BoardNote, readers: Readers) -> BoardPass
-        requires { IsSameBoard known readers }
+    /// A pass that knows a front of the board of this reader.
+    pub(crate) fn of(known: BoardNote, share: ReaderShare) -> BoardPass
+        requires { IsSameBoard known share }
         ensures { result ≡ known }
     {
-        BoardPass { known, readers }
+        BoardPass { known, share }
     }
 
-    /// Reads the board with a reader that no other pass has at that moment. It waits for nobody and takes no memory.
+    /// Reads the board with its reader, which one pass has at a time. It waits for nobody and takes no memory.
     ///
-    /// The answer stands for a list that begins with all that this pass read and was told of before. Where all readers
-    /// are in use, or the board has ended, it is just what this pass read or was told of, and may be behind the board.
+    /// The answer stands for a list that begins with all that this pass read and was told of before. Where others had
+    /// the reader at each of some looks, or the board has ended, it is just what this pass read or was told of, and may
+    /// be behind the board.
     pub fn glance(&mut self) -> Glance
         ensures later { IsLater self.old self.new }
         ensures stands { IsGlanceOf self.new.sets self.new.list result }
     {
-        self.readers.read(&mut self.known);
+        self.share.read(&mut self.known);
         self.known.glance()
     }
 

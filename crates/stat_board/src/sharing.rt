@@ -1,20 +1,17 @@
-//! The table of a board's readers: its rule, and what each step tells.
+//! The table of a board's reader: its rule, and what each step tells.
 use crate::note::BoardNote;
 use crate::rule::NoteReader;
 use atomic_table::{Play, Seat, Split, Table, TableRule};
 use std::alloc::Global;
 use std::snapshot::Snapshot;
 
-/// How many readers a board has at most. A publishing looks at each of them.
-pub(crate) const READERS: usize = 2;
-
-/// From one reader's word and slot to the next one's, so that no two are in one line of a processor's cache.
-pub(crate) const STRIDE: usize = 16;
+/// The word and the slot of the reader. A board has one, since a publishing looks at each reader that there is.
+pub(crate) const SLOT: usize = 0;
 
 /// How many words and slots the table has.
-pub(crate) const PLACES: usize = READERS * STRIDE;
+pub(crate) const PLACES: usize = 1;
 
-/// The rule: a word is 0 where its slot is at home, and each reader at home was told of the board that its table opened
+/// The rule: the word is 0 where the slot is at home, and a reader at home was told of the board that its table opened
 /// with.
 pub(crate) struct Sharing;
 
@@ -34,7 +31,7 @@ impl Split<BoardNote> for Sharing {
     ghost right = { λ f. f };
 }
 
-/// Raises the word of a slot from 0 to 1: then the seat has the slot.
+/// Raises the word from 0 to 1: then the seat has the slot.
 pub(crate) struct Take;
 
 impl Play<Option<NoteReader>, BoardNote> for Take {
@@ -44,7 +41,7 @@ impl Play<Option<NoteReader>, BoardNote> for Take {
     ghost then = { takes_slot (λ r. view r.place) };
 }
 
-/// Sets the word of a slot to 0: the slot goes home.
+/// Sets the word to 0: the slot goes home.
 pub(crate) struct Give;
 
 impl Play<Option<NoteReader>, BoardNote> for Give {
@@ -53,7 +50,7 @@ impl Play<Option<NoteReader>, BoardNote> for Give {
     ghost then = { gives_slot };
 }
 
-/// The word and the slot of reader r are those of number 16 r, and the others are not used.
+/// One word, and one slot with the reader.
 pub(crate) type ReaderTable = Table<
     Option<NoteReader>,
     BoardNote,

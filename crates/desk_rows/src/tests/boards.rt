@@ -3,7 +3,7 @@ ghost use Rattle.std.specs.Prelude.{◌≡◌, ◌≤◌, true, [], vec_len, All
 ghost use Rattle.stat_board.specs.OneSeat.{one_seat, IsIdle};
 
 use lic_types::{Client, Name};
-use options_machine::{Charge, Entry, Kind, Reply, Request};
+use options_machine::{Charge, EntryRef, Kind, Reply, Request};
 use stat_board::{Board, BoardPass, Glance, NoMemory, Ruling};
 use std::alloc::Global;
 use std::sync::Wait;
@@ -50,21 +50,6 @@ fn ann() -> Result<Client, Fail> {
     })
 }
 
-/// What a party asks at moment 0, and the reply.
-fn entry(party: u32, client: &Client, kind: Kind, reply: Reply) -> Entry
-    ensures { result ≡ record { request = record { party = party; client = client.now; kind = kind }; moment = 0; reply = reply } }
-{
-    Entry {
-        request: Request {
-            party,
-            client: *client,
-            kind,
-        },
-        moment: 0,
-        reply,
-    }
-}
-
 /// Party 0 takes the seat, and party 1 waits for it. What a pass reads after each.
 fn seat_and_wait<R: Wait>(
     rt: &R,
@@ -75,7 +60,12 @@ fn seat_and_wait<R: Wait>(
     requires sets { board.old.front.sets ≡ one_seat }
     requires empty { board.old.front.list ≡ [] }
 {
-    let granted = entry(0, client, Kind::Checkout, Reply::Granted(Charge::Open));
+    let checkout = Request {
+        party: 0,
+        client: *client,
+        kind: Kind::Checkout,
+    };
+    let granted = EntryRef::of(&checkout, 0, Reply::Granted(Charge::Open));
     let one_held = Glance {
         held: 1,
         taken: 1,
@@ -83,7 +73,12 @@ fn seat_and_wait<R: Wait>(
     };
     board.publish(rt, &granted, one_held);
     let first = pass.glance();
-    let waits = entry(1, client, Kind::Queue, Reply::Queued(1));
+    let queue = Request {
+        party: 1,
+        client: *client,
+        kind: Kind::Queue,
+    };
+    let waits = EntryRef::of(&queue, 0, Reply::Queued(1));
     let one_waits = Glance {
         queued: 1,
         ..one_held
@@ -122,7 +117,12 @@ fn look<R: Wait>(rt: &R, client: &Client, board: &mut Board)
     ensures idle { IsIdle board.new.front.list }
     ensures board { board.new.front.board ≡ board.old.front.board }
 {
-    let looked = entry(0, client, Kind::Look, Reply::NotHeld);
+    let request = Request {
+        party: 0,
+        client: *client,
+        kind: Kind::Look,
+    };
+    let looked = EntryRef::of(&request, 0, Reply::NotHeld);
     board.publish(rt, &looked, OPENING);
 }
 
@@ -198,9 +198,9 @@ fn publish_and_watch_all<R: Threads + Wait + Sync>(
     (fell, fresh)
 }
 
-/// Eight passes share two readers, which are all there again when nobody reads.
+/// Eight passes share the reader, which is there again when nobody reads.
 #[test]
-fn eight_threads_share_the_readers(rt: HostRuntime) -> Result<(), Fail> {
+fn eight_threads_share_the_reader(rt: HostRuntime) -> Result<(), Fail> {
     let client = ann()?;
     let made = opened(&rt, rt.alloc(), 8);
     assert!(rt; made.is_ok());

@@ -3,7 +3,7 @@ use Rattle.stat_board.specs.Fronts.{Front, IsLater}
 use Rattle.stat_board.proofs.Fronts.{later_self}
 use Rattle.stat_board.proofs.Published.{turns}
 use Rattle.stat_board.proofs.Told.{told_read}
-use Rattle.stat_board.proofs.readers.read.Goals as goal
+use Rattle.stat_board.proofs.share.read.Goals as goal
 
 pub enter_as-requires : goal.enter_as-requires
 enter_as-requires c x = turns _ _ x x (later_self x)
