@@ -1,6 +1,7 @@
 -- What comes of the making of a request.
 use Rattle.std.specs.Prelude.{◌≡◌, ℕ, nat_lt, if◌then◌else◌, List, [], ◌∷◌, ◌++◌, length, Result, Ok, Err, string_bytes}
 use Rattle.line_protocol.specs.Requests.{request_of}
+use Rattle.line_protocol.specs.declared.feeder.TheConstants.{LINE_LIMIT}
 use Rattle.line_protocol.specs.declared.wire.Wire.{Wire}
 use Rattle.line_protocol.specs.declared.wire.WireFault.{WireFault}
 use Rattle.client_talk.specs.declared.cause.Cause.{Cause}
@@ -14,7 +15,7 @@ read_judged (Err fault) = Err (NoRequest fault)
 
 -- whether words make a line that may be sent: it has at most 1,024 bytes, and is a request of the protocol
 abbrev pub line_judged : List ℕ → Result (Unit {0}) Cause
-line_judged words = if nat_lt 1024 (length words) then Err TooLong else read_judged (request_of words)
+line_judged words = if nat_lt LINE_LIMIT (length words) then Err TooLong else read_judged (request_of words)
 
 -- the words make a request, and this is its line; or they make none, and the fault is told; or memory ran out
 abbrev pub Makes : List ℕ → Want → Result Request Cause → Type 0

@@ -8,11 +8,8 @@ use crate::cause::Cause;
 use crate::client::Client;
 use crate::hold::Hold;
 use crate::want::Want;
-use line_protocol::read_request;
+use line_protocol::{LINE_LIMIT, read_request};
 use std::alloc::Global;
-
-/// The most bytes that a line of the protocol has, without its LF.
-const LINE_LIMIT: usize = 1024;
 
 /// A request.
 #[derive(Drop)]

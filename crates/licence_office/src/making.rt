@@ -19,6 +19,7 @@ use crate::office::{Office, OfficePass, Opened};
 use feature_desk::{Desk, DeskKeeper, DeskPass};
 use feature_lines::{Licence, Pool};
 use kex_net::tree;
+use lic_types::PARTY_LIMIT;
 use no_memory::NoMemory;
 use office_view::OfficeView;
 use options_text::Options;
@@ -45,7 +46,7 @@ fn has_gate(parties: u32, count: u32) -> bool
     ensures { result ≡ has_gate parties count }
 {
     let seats = count.min(parties);
-    2 * seats < parties && parties + seats <= 256
+    2 * seats < parties && parties + seats <= PARTY_LIMIT
 }
 
 /// The desk of a pool, with the passes of all parties and the keeper of its log. Its seats stand behind a fast gate

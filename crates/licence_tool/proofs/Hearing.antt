@@ -4,6 +4,7 @@ use Rattle.options_text.specs.Answers.{◌>>=◌}
 use Rattle.licence_tool.specs.Files.{Bytes, IsReading}
 use Rattle.licence_tool.specs.Outcome.{bytes_or_status}
 use Rattle.licence_tool.specs.Tool.{HearingSays, IsHeard, RefusalSays}
+use Rattle.licence_tool.specs.declared.reading.TheConstants.{FILE_LIMIT}
 use Rattle.licence_tool.specs.declared.status.Status.{Status}
 use Rattle.licence_tool.specs.declared.status.Status.TheVariants.{Done, Usage, Licence, Options, MoreOptions, Script, ReadFault, WriteFault, NoMemory, FileTooLong, AuditNo}
 
@@ -48,12 +49,12 @@ judged view bytes_of position next Failed told bytes result h says =
     record { reading = h.reading; is = h.is; says = subst (λ (a : Result (List ℕ) Status). HearingSays view Failed (a >>= next) result) (sym h.says) says }
 
 -- few enough bytes are heard
-pub heard_few : (position : ℕ) (bytes : List ℕ) → length bytes ≤ 1048576 → bytes_or_status position (Some bytes) ≡ Ok bytes
-heard_few position bytes few = rw (le-ltb 1048576 (length bytes) few) refl
+pub heard_few : (position : ℕ) (bytes : List ℕ) → length bytes ≤ FILE_LIMIT → bytes_or_status position (Some bytes) ≡ Ok bytes
+heard_few position bytes few = rw (le-ltb FILE_LIMIT (length bytes) few) refl
 
 -- and too many aren't
-pub heard_too_many : (position : ℕ) (bytes : List ℕ) → 1048576 < length bytes → bytes_or_status position (Some bytes) ≡ Err (FileTooLong position)
-heard_too_many position bytes many = rw (lt-ltb 1048576 (length bytes) many) refl
+pub heard_too_many : (position : ℕ) (bytes : List ℕ) → FILE_LIMIT < length bytes → bytes_or_status position (Some bytes) ≡ Err (FileTooLong position)
+heard_too_many position bytes many = rw (lt-ltb FILE_LIMIT (length bytes) many) refl
 
 -- bytes that agree with what is told
 pub agreeing : Bytes → Bytes
@@ -81,27 +82,22 @@ are_too_many limit None many = omega (arith, length-replicate {A = ℕ} (limit +
 are_too_many limit (Some held) many = many
 
 -- a file that is too long is heard so
-pub heard_long : {V : Type 0} (bytes_of : V → List ℕ) (position : ℕ) (Failed : Type 0) (told : Bytes) → IfSome told (λ held. 1048576 < length held)
+pub heard_long : {V : Type 0} (bytes_of : V → List ℕ) (position : ℕ) (Failed : Type 0) (told : Bytes) → IfSome told (λ held. FILE_LIMIT < length held)
     → IsHeard bytes_of (bytes_or_status position) Failed told (Err (FileTooLong position))
 heard_long bytes_of position Failed told many = record {
-  reading = Some (too_many 1048576 told);
-  is = too_many_agree 1048576 Failed told;
-  says = heard_too_many position (too_many 1048576 told) (are_too_many 1048576 told many);
+  reading = Some (too_many FILE_LIMIT told);
+  is = too_many_agree FILE_LIMIT Failed told;
+  says = heard_too_many position (too_many FILE_LIMIT told) (are_too_many FILE_LIMIT told many);
 }
 
 -- a file that is read is heard
-pub heard_whole : {V : Type 0} (bytes_of : V → List ℕ) (position : ℕ) (Failed : Type 0) (told : Bytes) (bytes : V) → IfSome told (λ held. bytes_of bytes ≡ held) → length (bytes_of bytes) ≤ 1048576
+pub heard_whole : {V : Type 0} (bytes_of : V → List ℕ) (position : ℕ) (Failed : Type 0) (told : Bytes) (bytes : V) → IfSome told (λ held. bytes_of bytes ≡ held) → length (bytes_of bytes) ≤ FILE_LIMIT
     → IsHeard bytes_of (bytes_or_status position) Failed told (Ok bytes)
 heard_whole bytes_of position Failed told bytes are few = record {
   reading = Some (bytes_of bytes);
   is = are;
   says = heard_few position (bytes_of bytes) few;
 }
-
--- a file whose reading failed
-pub heard_failed : {V : Type 0} (bytes_of : V → List ℕ) (position : ℕ) (Failed : Type 0) (told : Bytes) → Failed
-    → IsHeard bytes_of (bytes_or_status position) Failed told (Err (ReadFault position))
-heard_failed bytes_of position Failed told failed = record { reading = None; is = failed; says = (refl, failed) }
 
 -- a file for which there was too little memory
 pub heard_without_memory : {V : Type 0} (bytes_of : V → List ℕ) (position : ℕ) (Failed : Type 0) (told : Bytes)

@@ -23,13 +23,14 @@ use Rattle.licence_tool.specs.declared.command.LogReport.{LogReport}
 use Rattle.licence_tool.specs.declared.command.LogReport.TheVariants.{Users, Days}
 use Rattle.licence_tool.specs.declared.command.ScriptReport.{ScriptReport}
 use Rattle.licence_tool.specs.declared.command.ScriptReport.TheVariants.{Replies, Pools}
+use Rattle.licence_tool.specs.declared.reading.TheConstants.{FILE_LIMIT}
 use Rattle.licence_tool.specs.declared.status.Status.{Status}
 use Rattle.licence_tool.specs.declared.status.Status.TheVariants.{Licence, Options, MoreOptions, Script, ReadFault, FileTooLong}
 
 -- the bytes of the file at this position, unless its reading failed or it is longer than 1,048,576 bytes
 abbrev pub bytes_or_status : ℕ → Bytes → Result (List ℕ) Status
 bytes_or_status position None = Err (ReadFault position)
-bytes_or_status position (Some bytes) = if nat_lt 1048576 (length bytes) then Err (FileTooLong position) else Ok bytes
+bytes_or_status position (Some bytes) = if nat_lt FILE_LIMIT (length bytes) then Err (FileTooLong position) else Ok bytes
 
 -- what a file says, or the status of its fault
 abbrev pub value_or_status : {X E : Type 0} → (E → Status) → Result X E → Result X Status

@@ -2,8 +2,9 @@
 use Rattle.std.proofs.Common.{Bool, true, false, cond, ◌≡◌, ◌≢◌, ℕ, ◌+◌, ◌<◌, ◌≤◌, List, [], ◌∷◌, ◌++◌, length, take, drop, refl, sym, ◌∙◌, ap, arith, append_assoc, length-append, length-take, take-append-drop}
 use Rattle.std.proofs.lemmas.List.Elements.{All-append}
 use Rattle.line_protocol.specs.Streams.{IsFlat, IsOverlong, Begins}
+use Rattle.line_protocol.specs.declared.feeder.TheConstants.{LINE_LIMIT}
 
-pub overlong : (w piece : List ℕ) (n : ℕ) → IsFlat w → n ≤ length piece → IsFlat (take n piece) → 1024 < length w + n → IsOverlong (w ++ piece)
+pub overlong : (w piece : List ℕ) (n : ℕ) → IsFlat w → n ≤ length piece → IsFlat (take n piece) → LINE_LIMIT < length w + n → IsOverlong (w ++ piece)
 overlong w piece n fw within fp long =
     record {
       front = w ++ take n piece;
@@ -13,7 +14,7 @@ overlong w piece n fw within fp long =
       long = omega (arith, length-append w (take n piece), length-take n piece);
     }
 
-pub begins : (w piece : List ℕ) (n : ℕ) → IsFlat w → n ≤ length piece → IsFlat (take n piece) → length w + n ≤ 1024 → piece ≡ take n piece ++ 10 ∷ drop (n + 1) piece → Begins (w ++ piece) (w ++ take n piece) (drop (n + 1) piece)
+pub begins : (w piece : List ℕ) (n : ℕ) → IsFlat w → n ≤ length piece → IsFlat (take n piece) → length w + n ≤ LINE_LIMIT → piece ≡ take n piece ++ 10 ∷ drop (n + 1) piece → Begins (w ++ piece) (w ++ take n piece) (drop (n + 1) piece)
 begins w piece n fw within fp short split =
     record {
       whole = ap (λ x. w ++ x) split ∙ sym (append_assoc w (take n piece) (10 ∷ drop (n + 1) piece));

@@ -1,6 +1,7 @@
 -- The lines of a stream of bytes.
-use Rattle.std.specs.Prelude.{◌≡◌, ◌≢◌, ℕ, ◌≤◌, Bool, true, if◌then◌else◌, List, [], ◌∷◌, ◌++◌, length, All}
+use Rattle.std.specs.Prelude.{◌≡◌, ◌≢◌, ℕ, ◌≤◌, ◌<◌, Bool, true, if◌then◌else◌, List, [], ◌∷◌, ◌++◌, length, All}
 use Rattle.std.specs.List.{AllByRecursion}
+use Rattle.line_protocol.specs.declared.feeder.TheConstants.{LINE_LIMIT}
 
 -- bytes without LF
 abbrev pub IsFlat : List ℕ → Type 0
@@ -10,20 +11,20 @@ IsFlat bytes = All (λ b. b ≢ 10) bytes
 pub record Begins (bytes line rest : List ℕ) : Type 0 where
   pub whole : bytes ≡ line ++ 10 ∷ rest
   pub flat : IsFlat line
-  pub short : length line ≤ 1024
+  pub short : length line ≤ LINE_LIMIT
 
 -- no line is whole yet, and none is too long
 pub record IsOpen (bytes : List ℕ) : Type 0 where
   pub flat : IsFlat bytes
-  pub short : length bytes ≤ 1024
+  pub short : length bytes ≤ LINE_LIMIT
 
--- at least 1,025 bytes without LF stand at the beginning
+-- more than 1,024 bytes without LF stand at the beginning
 pub record IsOverlong (bytes : List ℕ) : Type 0 where
   pub front : List ℕ
   pub rest : List ℕ
   pub whole : bytes ≡ front ++ rest
   pub flat : IsFlat front
-  pub long : 1025 ≤ length front
+  pub long : LINE_LIMIT < length front
 
 -- lines, each with its LF, and a rest
 abbrev pub stream_of : List (List ℕ) → List ℕ → List ℕ
@@ -46,6 +47,6 @@ waiting h = if h.given then [] else h.bytes
 
 -- bytes that a feeder may hold
 pub record IsHeld (len : ℕ) (bytes : List ℕ) (over : Bool) : Type 0 where
-  pub short : len ≤ 1024
+  pub short : len ≤ LINE_LIMIT
   pub flat : IsFlat bytes
   pub nothing : over ≡ true → len ≡ 0

@@ -6,7 +6,7 @@ ghost use Rattle.line_protocol.specs.Feeding.{Feeds};
 use std::marker::Model;
 
 /// The most bytes that a line may have, without its LF.
-const LINE_LIMIT: usize = 1024;
+pub const LINE_LIMIT: usize = 1024;
 
 /// What a piece gave.
 #[derive(Clone, Copy, Debug, PartialEq, Eq)]

@@ -2,6 +2,7 @@
 use Rattle.std.specs.Prelude.{◌≡◌, ℕ, zero, suc, ◌*◌, ◌≤◌, Bool, false, List, [], ◌∷◌, Option, None, Some, IsSome, length, map, slice_index_or, slice_set}
 use Rattle.std.specs.Option.{option_map}
 use Rattle.lic_types.specs.declared.client.Client.{Client}
+use Rattle.lic_types.specs.declared.limits.TheConstants.{LINGER_LIMIT}
 use Rattle.linger_clock.specs.Deadlines.{Deadlines, IsClock, until_of}
 use Rattle.options_machine.specs.declared.rows.Lingerer.{Lingerer}
 use Rattle.options_machine.specs.Decide.{is_left_by}
@@ -76,4 +77,4 @@ pub record IsKept (room len : ℕ) (slots : List (Option Lingerer)) (marks : Lis
   pub long : length slots ≤ 2 * room
   pub slot_space : 2 * room ≤ slot_capacity
   pub mark_space : 2 * room ≤ mark_capacity
-  pub few : room ≤ 4096
+  pub few : room ≤ LINGER_LIMIT

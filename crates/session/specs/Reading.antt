@@ -2,6 +2,7 @@
 use Rattle.std.specs.Prelude.{◌≡◌, ℕ, ◌≤◌, List, [], flat_map, length}
 use Rattle.std.specs.List.{AllByRecursion}
 use Rattle.line_protocol.specs.Streams.{IsFlat, stream_of}
+use Rattle.line_protocol.specs.declared.feeder.TheConstants.{LINE_LIMIT}
 use Rattle.session_outside.specs.Talk.{Event, Heard, Silence, Ended, ReadFault, Wrote, WriteFault}
 use Rattle.session.specs.Acts.{Act, talk_of}
 use Rattle.session.specs.Session.{Session}
@@ -24,7 +25,7 @@ heard_of acts = flat_map heard_in (talk_of acts)
 -- a line of a stream
 pub record IsLine (line : List ℕ) : Type 0 where
   pub flat : IsFlat line
-  pub short : length line ≤ 1024
+  pub short : length line ≤ LINE_LIMIT
 
 -- the bytes that a session heard are lines, which it answered in their order, and a rest
 pub record HasRead (acts : List Act) : Type 0 where

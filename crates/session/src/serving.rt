@@ -1,6 +1,7 @@
 //! Sessions.
 ghost use Rattle.std.specs.Prelude.{◌≡◌, ◌≤◌, ◌<◌, ◌++◌, List, length, ℕ, IsNone, false};
 ghost use Rattle.line_protocol.specs.Streams.{IsOpen, waiting};
+ghost use Rattle.line_protocol.specs.declared.feeder.TheConstants.{LINE_LIMIT};
 ghost use Rattle.session.specs.Acts.{Act};
 ghost use Rattle.session.specs.Did.{Agrees, Did, HasCause};
 ghost use Rattle.session.specs.Pass.{AreIdle, AreOf};
@@ -96,7 +97,7 @@ fn hear<R: Wait, C: Counter, L: Link, K: Clock, G: Gate, B: Bell>(
 
 /// The end at the end of the stream, with this many bytes since the last LF.
 fn end_with(rest: usize) -> SessionEnd
-    requires { rest ≤ 1024 }
+    requires { rest ≤ LINE_LIMIT }
     ensures { (bytes : List ℕ) → length bytes ≡ rest → result ≡ end_with bytes }
 {
     if rest == 0 {
