@@ -3,7 +3,7 @@ use Rattle.std.proofs.Common.{◌≡◌, ◌≢◌, ℕ, zero, suc, ◌<◌, ◌
 use Rattle.std.proofs.lemmas.List.{length-append}
 use mathlib.Core.Option.{some, some-ne-none}
 use lib.ListN.{get_elem?}
-use Rattle.crossbeam_queue.specs.Fifo.{Pushes, Pops, Forks, Held, Merges, Learns}
+use Rattle.crossbeam_queue.specs.Fifo.{Pushes, Pops, Forks, Merges, Learns}
 use Rattle.crossbeam_queue.proofs.Lists.{at_set, at_snoc}
 use Rattle.options_machine.specs.declared.reply.Entry.{Entry}
 use Rattle.audit_log.specs.declared.ends.Knows.{Knows}
@@ -119,10 +119,6 @@ holds_no_more end v may items views h at = (h.taken, ((h.ends end v at).pushes m
 
 pub holds_rest : (end : ℕ) (v : Knows) → v.pushes ≡ true → v.takes ≡ true → Learns IsInOrder end v (HoldsRest v)
 holds_rest end v a b items views h at = let mine = h.ends end v at in (mine.pushes a).1 ∙ h.order ∙ ap (λ l. l ++ items) (sym (mine.takes b).1)
-
--- no queue of so many places holds what is fewer
-pub never_full : (pushed : List Entry) → length pushed < ENTRY_LIMIT → Held ENTRY_LIMIT (λ items. (taken : List Entry) × (pushed ≡ taken ++ items)) → ⊥
-never_full pushed few full = let n = ap length full.2.1 in omega (arith, length-append full.2.0 full.0, full.1)
 
 -- all was taken where no fewer entries were taken than were pushed
 pub all_taken : (pushed taken rest : List Entry) → pushed ≡ taken ++ rest → length pushed ≤ length taken → taken ≡ pushed

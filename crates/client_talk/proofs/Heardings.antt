@@ -5,7 +5,7 @@ use Rattle.std.proofs.lemmas.List.Sums.{sum_by-append}
 use Rattle.std.proofs.lemmas.List.Concat.{flat_map-append}
 use Rattle.line_protocol.specs.Streams.{Begins, Held, IsOpen, waiting}
 use Rattle.session_outside.specs.Talk.{Event, Follows}
-use Rattle.client_talk.specs.Hearing.{HearsBy, HearsReply, IsGarbled, IsHearing, Replies, Shows, StepSays, heard_in, heard_of, is_silence, silences_in, written_in, written_of}
+use Rattle.client_talk.specs.Hearing.{HearsReply, IsGarbled, IsHearing, StepSays, heard_in, heard_of, is_silence, silences_in, written_in, written_of}
 use Rattle.client_talk.specs.declared.hearing.Step.TheVariants as step
 use Rattle.client_talk.specs.declared.lost.Lost.{Lost}
 use Rattle.client_talk.specs.declared.lost.Lost.TheVariants.{Fault, Closed, Silent, Garbled, Unasked}
@@ -37,17 +37,6 @@ abbrev made : Held
 made = record { bytes = []; given = false; over = false }
 
 module _ {X : Type 0} (tells : X → List Event → Type 0) where
-  pub hears_nothing : (x : X) → IsHearing tells x x made 0
-  hears_nothing x = record {
-    events = [];
-    told = follows_none tells x;
-    unwritten = refl;
-    heard = refl;
-    silent = refl;
-    fits = refl;
-    still = record { flat = λ k d h e. absurd (omega arith); short = omega arith };
-  }
-
   module _ (old mid new : X) (held held' : Held) (quiets : ℕ) (h : IsHearing tells old mid held quiets) (e : Event) (f : Follows tells mid new (e ∷ [])) where
     abbrev after : List Event
     after = h.events ++ e ∷ []
@@ -98,6 +87,3 @@ module _ {X : Type 0} (tells : X → List Event → Type 0) where
     hears_none Silent s = absurd s
     hears_none Unasked s = absurd s
     hears_none Garbled s = (after, told_after, (written_snoc h.events e h.unwritten s.0, subst IsGarbled (sym heard_after) s.1))
-
-  pub hears_silence : (old new : X) (held : Held) (quiets : ℕ) → IsHearing tells old new held quiets → quiets ≡ 30 → HearsReply tells old new (Err Silent)
-  hears_silence old new held quiets h e = (h.events, h.told, (h.unwritten, ([], h.events, refl, h.silent ∙ e)))

@@ -33,7 +33,7 @@ module _ (desks : List DeskView) (p : ℕ) (cs : List Sitter) (dealt : cs ≡ ma
   pub dealt_idle : AreIdle account_of cs
   dealt_idle = λ j c l.
       let m : j < length desks = subst (λ n. j < n) dealt_long l in
-      let d = Rattle.daemon_run.proofs.Joining.the_first desks (omega arith) in
+      let d = Rattle.stat_board.specs.Fronts.the_first desks (omega arith) in
       subst (λ (x : Sitter). Rattle.session.specs.Pass.IsIdle (account_of x)) (sym (dealt_here j c d m)) (refl, refl)
 
 -- and are of the office
@@ -45,7 +45,7 @@ dealt_of office p cs paired sets dealt =
       each = λ j c d l. newcomer_of (get_or office.desks j d) p (get_or cs j c) (dealt_here office.desks p cs dealt j c d (subst (λ n. j < n) long l));
       sets = λ j c l.
           let m : j < length office.desks = subst (λ n. j < n) long l in
-          let d = Rattle.daemon_run.proofs.Joining.the_first office.desks (omega arith) in
+          let d = Rattle.stat_board.specs.Fronts.the_first office.desks (omega arith) in
           ap (λ (x : Sitter). length x.ticket.law.sets) (dealt_here office.desks p cs dealt j c d m) ∙ sets j d (subst (λ n. j < n) paired m);
     }
 

@@ -27,7 +27,8 @@ use Rattle.daemon_run.specs.Gives.{AreKept, any_broken, any_heard, any_rang, is_
 use Rattle.daemon_run.specs.Join.{Ran}
 use Rattle.daemon_run.specs.Work.{AllWorked}
 use Rattle.daemon_run.specs.declared.worker.Worker.{Worker}
-use Rattle.daemon_run.proofs.Joining.{IsNewcomer, choose, joins, the_first}
+use Rattle.daemon_run.proofs.Joining.{IsNewcomer, choose, joins}
+use Rattle.stat_board.specs.Fronts.{the_first}
 
 -- what an office tells at its close
 abbrev pub Closed : {Z : Type 0} → List DeskView → List (Vec Sitter Z) → OfficeEnd → Type 0

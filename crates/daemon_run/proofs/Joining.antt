@@ -16,6 +16,7 @@ use Rattle.options_machine.specs.declared.reply.Entry.{Entry}
 use Rattle.session.specs.Acts.{askings, sights}
 use Rattle.session.specs.Pass.{Gained, Gains, Stands}
 use Rattle.daemon_run.specs.Join.{IsHistory}
+use Rattle.stat_board.specs.Fronts.{the_first}
 
 -- one for each number below n
 pub choose : {Y : Type 0} (R : ℕ → Y → Type 0) (n : ℕ) → ((i : ℕ) → i < n → (y : Y) × R i y) → (ys : List Y) × (length ys ≡ n) × ((i : ℕ) (d : Y) → i < n → R i (get_or ys i d))
@@ -27,11 +28,6 @@ choose R (suc n) f =
       ap (λ k. suc k) t.1,
       elim [ zero ↦ λ d l. h.1 | suc i ↦ λ d l. t.2 i d (omega arith) ],
     )
-
--- the first of a list that is not empty
-pub the_first : {X : Type 0} (xs : List X) → 0 < length xs → X
-the_first [] l = absurd (omega arith)
-the_first (x ∷ xs) l = x
 
 -- a party's counter at desk j that has asked nothing yet
 pub record IsNewcomer (d : DeskView) (j p : ℕ) (cs : List Sitter) : Type 0 where

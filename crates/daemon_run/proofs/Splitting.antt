@@ -2,9 +2,9 @@
 use Rattle.std.proofs.Common.{◌≡◌, ◌∙◌, ℕ, suc, zero, ◌+◌, ◌<◌, ◌++◌, ◌∷◌, [], List, Bool, All, Option, Some, length, get_or, option_to_list, reverse, append_assoc, ap, refl, sym, subst, arith}
 use Rattle.std.proofs.lemmas.List.{append-nil, length-append, map-append, reverse-append}
 use Rattle.std.specs.List.{list_any}
+use Rattle.std.proofs.Math.Bool.{or-false}
 use Rattle.session_outside.specs.Talk.{Counted, Event, Follows}
 use Rattle.session.proofs.Counts.{counted_more}
-use Rattle.door_worker.proofs.Serving.{or_false}
 use Rattle.session.specs.Acts.{moments_of}
 use Rattle.door_worker.specs.Visits.{Visit, acts_in, talks_in}
 use Rattle.daemon_outside.specs.Sites.{Kept}
@@ -69,7 +69,7 @@ none_left (x ∷ xs) e = absurd (omega arith)
 
 -- one more of a list is counted
 pub counted_last : {X : Type 0} (p : X → Bool) (xs : List X) (x : X) (a b c : ℕ) → Counted (list_any p xs) a b → Counted (p x) b c → Counted (list_any p (xs ++ x ∷ [])) a c
-counted_last p xs x a b c h k = counted_more p xs (x ∷ []) a b c h (subst (λ t. Counted t b c) (sym (or_false (p x))) k)
+counted_last p xs x a b c h k = counted_more p xs (x ∷ []) a b c h (subst (λ t. Counted t b c) (sym (or-false (p x))) k)
 
 -- where none is left, all are there
 pub whole_in : {X : Type 0} (gone left all : List X) → gone ++ reverse left ≡ all → left ≡ [] → gone ≡ all

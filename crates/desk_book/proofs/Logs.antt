@@ -1,7 +1,8 @@
 -- The log of one entry more.
-use Rattle.std.proofs.Common.{◌≡◌, ◌<◌, ◌≤◌, Bool, true, false, ◌||◌, not, nat_lt, List, [], ◌∷◌, ◌++◌, length, take, MatchBool, refl, sym, ap, ◌∙◌, arith}
+use Rattle.std.proofs.Common.{◌≡◌, ◌<◌, ◌≤◌, Bool, true, false, ◌||◌, not, nat_lt, List, [], ◌∷◌, ◌++◌, length, take, MatchBool, sym, ap, ◌∙◌, arith}
 use Rattle.std.proofs.lemmas.Bool.{le-ltb, lt-ltb, ltb-true}
 use Rattle.std.proofs.lemmas.List.{length-append, length-take, take-append-le, take_all}
+use Rattle.std.proofs.Math.Bool.{or-false, or-true}
 use Rattle.options_machine.specs.declared.reply.Entry.{Entry}
 use Rattle.audit_log.specs.declared.queue.TheConstants.{ENTRY_LIMIT}
 
@@ -31,14 +32,6 @@ pub logged_more : (h old new : List Entry) (e : Entry) (told : Bool) → old ≡
 logged_more h old new e true is m = m.1 ∙ (ap (λ l. l ++ e ∷ []) is ∙ take_short h e (short_of h old is m.0))
 logged_more h old new e false is m = m.1 ∙ (is ∙ sym (take-append-le ENTRY_LIMIT h (e ∷ []) (full_of h old is m.0)))
 
-or_no : (b : Bool) → (b || false) ≡ b
-or_no true = refl
-or_no false = refl
-
-or_yes : (b : Bool) → (b || true) ≡ true
-or_yes true = refl
-or_yes false = refl
-
 long_of : (h : List Entry) → true ≡ nat_lt ENTRY_LIMIT (length h) → ENTRY_LIMIT < length h
 long_of h c = ltb-true ENTRY_LIMIT (length h) (sym c)
 
@@ -54,7 +47,7 @@ still_cut h e c = let n = long_of h c in sym (lt-ltb ENTRY_LIMIT (length (h ++ e
 pub cut_more : (h old new : List Entry) (e : Entry) (cut told : Bool) → old ≡ take ENTRY_LIMIT h → cut ≡ nat_lt ENTRY_LIMIT (length h) → Pushes told old new e → (cut || not told) ≡ nat_lt ENTRY_LIMIT (length (h ++ e ∷ []))
 cut_more h old new e cut true is c m =
     let n = short_of h old is m.0 in
-    or_no cut ∙ (c ∙ (le-ltb ENTRY_LIMIT (length h) (omega arith) ∙ sym (le-ltb ENTRY_LIMIT (length (h ++ e ∷ [])) (omega (arith, length-append h (e ∷ []))))))
+    or-false cut ∙ (c ∙ (le-ltb ENTRY_LIMIT (length h) (omega arith) ∙ sym (le-ltb ENTRY_LIMIT (length (h ++ e ∷ [])) (omega (arith, length-append h (e ∷ []))))))
 cut_more h old new e cut false is c m =
     let n = full_of h old is m.0 in
-    or_yes cut ∙ sym (lt-ltb ENTRY_LIMIT (length (h ++ e ∷ [])) (omega (arith, length-append h (e ∷ []))))
+    or-true cut ∙ sym (lt-ltb ENTRY_LIMIT (length (h ++ e ∷ [])) (omega (arith, length-append h (e ∷ []))))

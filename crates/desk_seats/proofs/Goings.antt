@@ -1,14 +1,10 @@
 -- From one pass of a party to a later one.
-use Rattle.std.proofs.Common.{List, [], ◌++◌, refl, ap, sym, ◌∙◌, append-nil, append_assoc}
+use Rattle.std.proofs.Common.{List, ◌++◌, ap, ◌∙◌, append_assoc}
 use Rattle.kex_gate.specs.declared.view.Visit.{Visit}
 use Rattle.seat_names.proofs.Leading.{leads_on}
 use Rattle.desk_seats.specs.Views.{SeatsView}
 use Rattle.desk_seats.specs.Passes.{SeatPass, pass_of, visits_of}
 use Rattle.desk_seats.specs.Turns.{Goes}
-
--- no call at all
-pub goes_stay : (p : SeatPass) → Goes p p
-goes_stay p = record { table = refl; number = refl; accesses = λ none. ([], refl); visits = ([], sym (append-nil (visits_of p.lane))) }
 
 -- one call after another
 pub goes_on : (p q r : SeatPass) → Goes p q → Goes q r → Goes p r

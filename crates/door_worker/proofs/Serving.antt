@@ -1,8 +1,9 @@
 -- Sessions one after another.
-use Rattle.std.proofs.Common.{◌≡◌, ◌≢◌, ℕ, ◌<◌, ◌≤◌, ◌∙◌, ◌++◌, ◌∷◌, [], List, Bool, true, false, ◌||◌, length, map, ap, sym, refl, arith, subst}
+use Rattle.std.proofs.Common.{◌≡◌, ◌≢◌, ℕ, ◌<◌, ◌≤◌, ◌∙◌, ◌++◌, ◌∷◌, [], List, length, map, ap, sym, refl, arith, subst}
 use Rattle.std.proofs.lemmas.List.{append-nil, get_or-map, length-map, map-append, same_lists}
 use Rattle.std.proofs.lemmas.Grind.{flat_map-append}
 use Rattle.std.specs.List.{AllByRecursion}
+use Rattle.std.proofs.Math.Bool.{or-false}
 use Rattle.counter.specs.Account.{Account}
 use Rattle.office_view.specs.View.{View}
 use Rattle.session_outside.specs.Talk.{Counted, Event, Follows, HasRisen}
@@ -14,10 +15,6 @@ use Rattle.session.specs.declared.end.SessionEnd.TheVariants as ends
 use Rattle.session.proofs.Counts.{counted_more, counted_still, follows_none, follows_then}
 use Rattle.session.proofs.Gaining.{gains_none, gains_then}
 use Rattle.door_worker.specs.Visits.{AreSessions, IsSession, Served, Visit, acts_in, is_down, talks_in}
-
-pub or_false : (a : Bool) → (a || false) ≡ a
-or_false true = refl
-or_false false = refl
 
 -- a session rings the bell exactly where it ends Down
 pub counted_down : (end : SessionEnd) (x y : ℕ) → x ≤ y → (end ≡ ends.Down → HasRisen x y) → (end ≢ ends.Down → y ≡ x) → Counted (is_down end) x y
@@ -75,7 +72,7 @@ module _ {C D K B : Type 0} (account : C → Account) (talks : D → List (List 
     gains = subst (λ l. Gains account l p0 p1) (sym (append-nil acts)) g;
     told = f;
     moments = subst (λ l. Follows gave k0 k1 (moments_of l)) (sym (append-nil acts)) m;
-    rung = subst (λ x. Counted x (rings b0) (rings b1)) (sym (or_false (is_down end))) r;
+    rung = subst (λ x. Counted x (rings b0) (rings b1)) (sym (or-false (is_down end))) r;
     heard = t;
   }
 

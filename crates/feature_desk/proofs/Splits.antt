@@ -1,5 +1,5 @@
 -- The loop that takes the passes apart.
-use Rattle.std.proofs.Common.{◌≡◌, ℕ, zero, suc, ◌+◌, List, [], ◌∷◌, ◌++◌, map, length, All, ap, sym, ◌∙◌, subst, arith, length-append}
+use Rattle.std.proofs.Common.{◌≡◌, ℕ, zero, suc, ◌+◌, List, [], ◌∷◌, ◌++◌, map, length, All, ap, sym, ◌∙◌, arith, length-append}
 use Rattle.std.specs.List.{sum_by}
 use Rattle.std.proofs.lemmas.List.{map_push}
 use Rattle.std.proofs.lemmas.List.Sums.{sum_by-append, sum_by-cons}
@@ -31,9 +31,6 @@ pub record Splits (t : SeatsView) (done : List Sitter) (tickets : List Asker) (g
 seam : (P : Sitter → Type 0) (done rest : List Sitter) (x : Sitter) → All P (done ++ x ∷ rest) → P x
 seam P [] rest x all = all 0 x (omega arith)
 seam P (y ∷ ys) rest x all = seam P ys rest x (λ k d lt. all (suc k) d (omega (arith, lt)))
-
-pub at_seam : (P : Sitter → Type 0) (all done left rest : List Sitter) (x : Sitter) → done ++ left ≡ all → left ≡ x ∷ rest → All P all → P x
-at_seam P all done left rest x whole next p = seam P done rest x (subst (All P) (sym whole ∙ ap (λ (l : List Sitter). done ++ l) next) p)
 
 all_push : (P : Sitter → Type 0) (xs : List Sitter) (x : Sitter) → All P xs → P x → All P (xs ++ x ∷ [])
 all_push P [] x all one zero d lt = one

@@ -1,4 +1,4 @@
-use Rattle.std.proofs.Common.{◌≡◌, ℕ, ◌≤◌, Bool, true, false, ◌&&◌, ℤ, pos, None, Some, refl, ap, sym, ◌∙◌, arith, subst, nat_le}
+use Rattle.std.proofs.Common.{◌≡◌, ℕ, ◌≤◌, Bool, true, false, ◌&&◌, ℤ, pos, Some, refl, ap, ◌∙◌, arith, subst, nat_le}
 use Rattle.std.proofs.lemmas.Int.{ints}
 use Rattle.jiff_core.specs.declared.civil.date.Date.{Date}
 use Rattle.jiff_core.specs.Date.{epoch_day}
@@ -29,11 +29,6 @@ same_day a b y m d n = λ i. record {
 pub made : {X : Type 0} (x : X) (b : Bool) (makes : b ≡ true → X) → b ≡ true → ((h : b ≡ true) → x ≡ makes h) → Some x ≡ where_true b makes
 made x true makes h same = ap Some (same refl)
 made x false makes h same = absurd cc
-
--- a false test lets one make nothing
-pub not_made : {X : Type 0} (b : Bool) (makes : b ≡ true → X) → (b ≡ true → ⊥) → None ≡ where_true b makes
-not_made true makes h = absurd (h refl)
-not_made false makes h = refl
 
 -- a day that has the parts and the number of a civil date is the day of that date
 pub is_day_on : (a : Day) (year month day : ℕ) → is_civil year month day ≡ true → a.year ≡ year → a.month ≡ month → a.day ≡ day → a.number ≡ days_from_civil (pos year) month day → Some a ≡ day_on year month day
@@ -67,10 +62,6 @@ pub civil_from : (year month day : ℕ) (y m d : ℤ) → y ≡ pos year → m �
 civil_from year month day y m d p q r date =
     date_is_civil year month day
     (subst (λ (a : ℤ). IsDate a (pos month) (pos day)) p (subst (λ (b : ℤ). IsDate y b (pos day)) q (subst (λ (c : ℤ). IsDate y m c) r date)))
-
-pub date_from : (year month day : ℕ) (y m d : ℤ) → y ≡ pos year → m ≡ pos month → d ≡ pos day → is_civil year month day ≡ true → IsDate y m d
-date_from year month day y m d p q r civil =
-    subst (λ (c : ℤ). IsDate y m c) (sym r) (subst (λ (b : ℤ). IsDate y b (pos day)) (sym q) (subst (λ (a : ℤ). IsDate a (pos month) (pos day)) (sym p) (civil_is_date year month day civil)))
 
 -- the number of a date of these parts
 pub number_is : (year month day : ℕ) (shown date : Date) (n : ℤ) → n ≡ epoch_day shown → shown ≡ date → date.year ≡ pos year → pos date.month ≡ pos month → pos date.day ≡ pos day → n ≡ days_from_civil (pos year) month day

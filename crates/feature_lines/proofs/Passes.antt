@@ -4,6 +4,7 @@ use Rattle.std.proofs.lemmas.Bool.{ltb-false}
 use Rattle.std.specs.List.{list_any}
 use Rattle.std.specs.Option.{option_to_list}
 use Rattle.std.proofs.lemmas.List.Folds.{list_any-append}
+use Rattle.std.proofs.Math.Bool.{or-false}
 use Rattle.lic_text.specs.Lines.{Worded}
 use Rattle.lic_text.specs.Number.{number_of}
 use Rattle.lic_text.specs.Reads.{IsFaultOf}
@@ -149,10 +150,6 @@ first_when before s f false is first small pools notes names =
     let sum : pools_with_line f s.pools ≡ unless_fault (count_fault (counted_lines before) f) (pools_of (counted_lines before ++ f ∷ [])) = ap (pools_with_line f) pools ∙ added_when (counted_lines before) f _ refl small in
     subst (λ (r : Result (List Pool) LicenceFault). Says before (Ok (Feature f)) (with_pools s r)) (sym sum) (summed before s f _ refl first is notes names)
 
-or_none : (b : Bool) → (b || false) ≡ b
-or_none true = refl
-or_none false = refl
-
 names_push : (before : List Judged) (f : FeatureLine) (name : List ℕ) (b : Bool) → f.is_feature ≡ b → list_any (is_feature_of name) (before ++ Ok (Feature f) ∷ []) ≡ (list_any (is_feature_of name) before || ((b && same_name name f.name) || false))
 names_push before f name b is =
     list_any-append (is_feature_of name) before (Ok (Feature f) ∷ [])
@@ -163,7 +160,7 @@ known_already before f name true is known =
     let same : name ≡ f.name = same_name_is name f.name is in
     let has : list_any (is_feature_of name) before ≡ true = ap (λ (n : List ℕ). list_any (is_feature_of n) before) same ∙ known in
     has ∙ sym (ap (λ (c : Bool). c || true) has)
-known_already before f name false is known = sym (or_none _)
+known_already before f name false is known = sym (or-false _)
 
 feature_when : (before : List Judged) (s : Sofar) (f : FeatureLine) (is_feature has : Bool) → f.is_feature ≡ is_feature → list_any (is_feature_of f.name) before ≡ has → IsKept before s → f.count ≤ 65535
     → Says before (Ok (Feature f)) (cond is_feature (cond has (Ok (sofar_with_note f.line SecondFeature s)) (counted_or_locked (record s { features = with_name s.features f.name }) f)) (counted_or_locked s f))
@@ -183,7 +180,7 @@ feature_when before s f true false p q kept small =
 feature_when before s f false has p q kept small =
     let first : is_second before f ≡ false = ap (λ (b : Bool). b && list_any (is_feature_of f.name) before) p in
     first_when before s f _ refl first small kept.pools kept.notes
-    (λ name. kept.features name ∙ (sym (or_none _) ∙ sym (names_push before f name false p)))
+    (λ name. kept.features name ∙ (sym (or-false _) ∙ sym (names_push before f name false p)))
 
 feature_says : (before : List Judged) (s : Sofar) (f : FeatureLine) → IsKept before s → f.count ≤ 65535 → Says before (Ok (Feature f)) (after_feature s f)
 feature_says before s f kept small =
@@ -199,7 +196,7 @@ step_says before s (Ok Nothing) kept small = (
   record {
     pools = kept.pools ∙ ap pools_of (sym (same_counted before (Ok Nothing) refl));
     notes = kept.notes ∙ sym (same_notes before (Ok Nothing) refl);
-    features = λ name. kept.features name ∙ (sym (or_none _) ∙ sym (list_any-append (is_feature_of name) before (Ok Nothing ∷ [])));
+    features = λ name. kept.features name ∙ (sym (or-false _) ∙ sym (list_any-append (is_feature_of name) before (Ok Nothing ∷ [])));
   },
 )
 step_says before s (Ok (Unserved line)) kept small = (
@@ -207,7 +204,7 @@ step_says before s (Ok (Unserved line)) kept small = (
   record {
     pools = kept.pools ∙ ap pools_of (sym (same_counted before (Ok (Unserved line)) refl));
     notes = ap (λ (ns : List Note). ns ++ (record { line = line; kind = NotServed }) ∷ []) kept.notes ∙ sym (one_note before (Ok (Unserved line)) _ refl);
-    features = λ name. kept.features name ∙ (sym (or_none _) ∙ sym (list_any-append (is_feature_of name) before (Ok (Unserved line) ∷ [])));
+    features = λ name. kept.features name ∙ (sym (or-false _) ∙ sym (list_any-append (is_feature_of name) before (Ok (Unserved line) ∷ [])));
   },
 )
 step_says before s (Err fault) kept small = refl

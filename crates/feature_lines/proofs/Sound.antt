@@ -1,6 +1,6 @@
 use Rattle.std.proofs.Common.{◌≡◌, ℕ, ◌+◌, ◌<◌, ◌≤◌, Bool, true, false, ◌||◌, not, ltb, eqb, cond, List, [], ◌∷◌, ◌++◌, length, Option, None, Some, Result, Ok, Err, refl, ap, ◌∙◌, length-append, subst, arith}
 use Rattle.std.proofs.lemmas.Bool.Decides.{nat_tests}
-use Rattle.std.proofs.lemmas.Bool.{ltb-true, ltb-false, or_parts}
+use Rattle.std.proofs.lemmas.Bool.{ltb-true, ltb-false, or_parts, and_parts, not-true}
 use Rattle.std.specs.List.{find, list_all}
 use Rattle.std.proofs.lemmas.List.Folds.{list_any-append}
 use Rattle.feature_lines.specs.Licence.{ArePools, Judged, PoolKey, are_apart, has_licences, has_pool, line_key, pool_key, pool_with, same_key}
@@ -11,7 +11,6 @@ use Rattle.feature_lines.specs.declared.line.Said.TheVariants.{Nothing, NotServe
 use Rattle.feature_lines.specs.declared.pool.Pool.{Pool}
 use Rattle.feature_lines.proofs.Keys.{other_key}
 use Rattle.feature_lines.proofs.Passes.{AreSmall, IsSmall}
-use Rattle.feature_lines.proofs.Small.{both}
 
 -- The pools of a pass are few and apart, and have licences.
 
@@ -28,24 +27,20 @@ has_count p some few = grind (arith, nat_tests)
 
 all_push : (pools : List Pool) (p : Pool) → list_all has_licences pools ≡ true → has_licences p ≡ true → list_all has_licences (pools ++ p ∷ []) ≡ true
 all_push [] p all has = rw has refl
-all_push (q ∷ qs) p all has = let two = both (has_licences q) (list_all has_licences qs) all in rw two.0 (all_push qs p two.1 has)
+all_push (q ∷ qs) p all has = let two = and_parts (has_licences q) (list_all has_licences qs) all in rw two.0 (all_push qs p two.1 has)
 
 none_has : (key : PoolKey) (pools : List Pool) → find (λ p. same_key key (pool_key p)) pools ≡ None → has_pool key pools ≡ false
 none_has key [] none = refl
 none_has key (p ∷ ps) none = elim (same_key key (pool_key p)) as (λ (t : Bool). cond t (Some p) (find (λ p. same_key key (pool_key p)) ps) ≡ None → (t || has_pool key ps) ≡ false) [ true ↦ λ e. absurd cc | false ↦ λ e. none_has key ps e ] none
 
-not_true : (b : Bool) → not b ≡ true → b ≡ false
-not_true true h = absurd cc
-not_true false h = refl
-
 -- a new pool at the end
 apart_push : (pools : List Pool) (p : Pool) → are_apart pools ≡ true → has_pool (pool_key p) pools ≡ false → are_apart (pools ++ p ∷ []) ≡ true
 apart_push [] p apart none = refl
 apart_push (q ∷ qs) p apart none =
-    let two = both (not (has_pool (pool_key q) qs)) (are_apart qs) apart in
+    let two = and_parts (not (has_pool (pool_key q) qs)) (are_apart qs) apart in
     let parts = or_parts (same_key (pool_key p) (pool_key q)) (has_pool (pool_key p) qs) none in
     let far : same_key (pool_key q) (pool_key p) ≡ false = other_key (pool_key p) (pool_key q) parts.0 in
-    let alone : has_pool (pool_key q) qs ≡ false = not_true _ two.0 in
+    let alone : has_pool (pool_key q) qs ≡ false = not-true _ two.0 in
     let still : has_pool (pool_key q) (qs ++ p ∷ []) ≡ false = list_any-append (λ r. same_key (pool_key q) (pool_key r)) qs (p ∷ []) ∙ rw (alone, far) refl in
     rw still (apart_push qs p two.1 parts.1)
 
@@ -57,7 +52,7 @@ has_raised key other count (p ∷ ps) = elim (same_key key (pool_key p)) as (λ 
 apart_raised : (key : PoolKey) (count : ℕ) (pools : List Pool) → are_apart pools ≡ true → are_apart (pools_with_more key count pools) ≡ true
 apart_raised key count [] apart = refl
 apart_raised key count (p ∷ ps) apart =
-    let two = both (not (has_pool (pool_key p) ps)) (are_apart ps) apart in
+    let two = and_parts (not (has_pool (pool_key p) ps)) (are_apart ps) apart in
     let rest = apart_raised key count ps two.1 in
     elim (same_key key (pool_key p)) as (λ (t : Bool). are_apart (cond t (with_more count p ∷ ps) (p ∷ pools_with_more key count ps)) ≡ true) [ true ↦ apart | false ↦ rw (has_raised key (pool_key p) count ps, two.0) rest ]
 
@@ -68,11 +63,11 @@ length_raised key count (p ∷ ps) = elim (same_key key (pool_key p)) as (λ (t 
 all_raised : (key : PoolKey) (count : ℕ) (pools : List Pool) (d : Pool) → find (λ p. same_key key (pool_key p)) pools ≡ Some d → d.count + count ≤ 65535 → list_all has_licences pools ≡ true → list_all has_licences (pools_with_more key count pools) ≡ true
 all_raised key count [] d is few all = refl
 all_raised key count (p ∷ ps) d is few all =
-    let two = both (has_licences p) (list_all has_licences ps) all in
+    let two = and_parts (has_licences p) (list_all has_licences ps) all in
     elim (same_key key (pool_key p)) as (λ (t : Bool). cond t (Some p) (find (λ p. same_key key (pool_key p)) ps) ≡ Some d → list_all has_licences (cond t (with_more count p ∷ ps) (p ∷ pools_with_more key count ps)) ≡ true) [
       | true ↦ λ e. (let same : p ≡ d = cc in
           let counts : p.count ≡ d.count = ap (λ (q : Pool). q.count) same in
-          let some : 0 < p.count = ltb-true 0 p.count (both (ltb 0 p.count) _ two.0).0 in
+          let some : 0 < p.count = ltb-true 0 p.count (and_parts (ltb 0 p.count) _ two.0).0 in
           let has : has_licences (with_more count p) ≡ true = has_count (with_more count p) (omega arith) (omega arith) in
           rw has two.1)
       | false ↦ λ e. rw two.0 (all_raised key count ps d e few two.1)

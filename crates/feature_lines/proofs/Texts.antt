@@ -1,5 +1,5 @@
 use Rattle.std.proofs.Common.{◌≡◌, ℕ, zero, suc, ◌+◌, ◌<◌, ◌≤◌, Bool, true, false, not, ltb, eqb, cond, List, [], ◌∷◌, ◌++◌, length, take, drop, Option, None, Some, Ok, Err, refl, subst, arith}
-use Rattle.std.proofs.lemmas.Bool.{eqb-true, ltb-true, ltb-false}
+use Rattle.std.proofs.lemmas.Bool.{eqb-true, ltb-true, ltb-false, and_parts}
 use Rattle.lic_types.specs.declared.name.NameFault.TheVariants.{Empty, TooLong}
 use Rattle.std.proofs.lemmas.Bool.Decides.{nat_tests}
 use Rattle.std.specs.List.{position_from}
@@ -7,7 +7,7 @@ use Rattle.std.specs.Str.{all_ascii_digits}
 use Rattle.std.specs.Char.{is_ascii_digit}
 use Rattle.lic_types.specs.Name.{is_name_byte, name_of, unless_bad}
 use Rattle.lic_types.specs.Version.{decimal, key_of, key_at, key_from, nine_places}
-use Rattle.feature_lines.proofs.Small.{both, some_of}
+use Rattle.feature_lines.proofs.Small.{some_of}
 
 -- A word that spells a version is a name.
 
@@ -18,14 +18,14 @@ digit_is_name d is = grind (arith, is_ascii_digit, nat_tests)
 no_bad_digit : (w : List ℕ) (i : ℕ) → all_ascii_digits w ≡ true → position_from (λ b. not (is_name_byte b)) i w ≡ None
 no_bad_digit [] i all = refl
 no_bad_digit (d ∷ ds) i all =
-    let two = both (is_ascii_digit d) (all_ascii_digits ds) all in
+    let two = and_parts (is_ascii_digit d) (all_ascii_digits ds) all in
     let good : is_name_byte d ≡ true = digit_is_name d two.0 in
     rw good (no_bad_digit ds (i + 1) two.1)
 
 front_digits : (a b : List ℕ) → all_ascii_digits (a ++ b) ≡ true → all_ascii_digits a ≡ true
 front_digits [] b all = refl
 front_digits (d ∷ ds) b all =
-    let two = both (is_ascii_digit d) (all_ascii_digits (ds ++ b)) all in
+    let two = and_parts (is_ascii_digit d) (all_ascii_digits (ds ++ b)) all in
     rw (two.0, front_digits ds b two.1) refl
 
 -- the first place is this one or a later one
@@ -44,7 +44,7 @@ by_dot d ds i j p zero true dot at is front back rest =
 by_dot d ds i j p (suc r) true dot at is front back rest = let same : i ≡ p = cc in absurd (omega arith)
 by_dot d ds i j p zero false dot at is front back rest = let later = not_before ds (i + 1) p at in absurd (omega arith)
 by_dot d ds i j p (suc r) false dot at is front back rest =
-    let two = both (is_ascii_digit d) (all_ascii_digits (take r ds)) front in
+    let two = and_parts (is_ascii_digit d) (all_ascii_digits (take r ds)) front in
     let good : is_name_byte d ≡ true = digit_is_name d two.0 in
     rw good (rest r at (omega arith) two.1 back)
 
@@ -64,7 +64,7 @@ unless_so false o x is = (refl, is)
 
 -- a word of digits has one or more, and no byte that a name may not have
 digits_of : (w : List ℕ) (x : ℕ) → decimal w ≡ Some x → (ltb 0 (length w) ≡ true) × (all_ascii_digits w ≡ true)
-digits_of w x is = both (ltb 0 (length w)) (all_ascii_digits w) (some_of _ _ x is).0
+digits_of w x is = and_parts (ltb 0 (length w)) (all_ascii_digits w) (some_of _ _ x is).0
 
 named_at : (w : List ℕ) (o : Option ℕ) (key : ℕ) → position_from (λ b. eqb b 46) 0 w ≡ o → key_at w o ≡ Some key → (0 < length w) × (position_from (λ b. not (is_name_byte b)) 0 w ≡ None)
 named_at w None key at is =

@@ -1,5 +1,5 @@
 -- A search among entries that stand in the order of their prints.
-use Rattle.std.proofs.Common.{◌≡◌, ℕ, ◌==◌, ◌<◌, Bool, true, false, ◌&&◌, List, length, get_or, Ok, Err, refl, sym, ap, subst, ◌∙◌, arith}
+use Rattle.std.proofs.Common.{◌≡◌, ℕ, ◌==◌, ◌<◌, true, false, List, length, get_or, Ok, Err, sym, ap, subst, ◌∙◌, arith}
 use Rattle.std.proofs.lemmas.Bool.Decides.{nat_tests}
 use Rattle.std.proofs.lemmas.Cmp.{nat_cmp_total}
 use Rattle.std.proofs.lemmas.List.Folds.{list_any_at, list_any_none}
@@ -8,6 +8,7 @@ use Rattle.std.specs.List.{list_any}
 use Rattle.std.specs.List.Sorted.{IsBinarySearchResult}
 use Rattle.std.specs.Ordering.{is_eq, nat_cmp}
 use Rattle.std.specs.declared.cmp.Ordering.TheVariants.{Equal}
+use Rattle.std.proofs.lemmas.Bool.{and_from}
 use Rattle.group_roster.specs.Printed.{AreInOrder, has_print, is_entry, leads_to}
 use Rattle.group_roster.specs.Listings.{name_print}
 use Rattle.group_roster.specs.declared.prints.Printed.{Printed}
@@ -27,10 +28,7 @@ pub found_entry : (xs : List Printed) (print i : ℕ) (e : Printed) → i < leng
     → list_any (is_entry print e.place) xs ≡ true
 found_entry xs print i e within equal is =
     list_any_at (is_entry print e.place) xs i e within
-    (rw (sym is) (both (e.print == print) (e.place == e.place) (same_number e.print print (ap (λ (x : Printed). nat_cmp x.print print) is ∙ equal e)) (itself e.place)))
-  where
-    both : (a b : Bool) → a ≡ true → b ≡ true → (a && b) ≡ true
-    both a b h k = rw (h, k) refl
+    (rw (sym is) (and_from (e.print == print) (e.place == e.place) (same_number e.print print (ap (λ (x : Printed). nat_cmp x.print print) is ∙ equal e)) (itself e.place)))
 
 -- and where none was found none has the print
 pub no_entry : (xs : List Printed) (print i : ℕ) → AreInOrder xs → IsBinarySearchResult (λ (x : Printed). nat_cmp x.print print) xs (Err i) → list_any (λ (x : Printed). x.print == print) xs ≡ false

@@ -1,12 +1,13 @@
 -- The accesses of a party over a whole schedule are no more than its place allows.
 use Rattle.std.proofs.Common.{◌≡◌, ◌≢◌, ℕ, ◌+◌, ◌-◌, ◌<◌, ◌≤◌, List, [], ◌∷◌, eqb, sym, refl, ap, ◌∙◌, ⊎_elim, arith}
+use Rattle.std.proofs.lemmas.Bool.{eq-eqb}
 use Rattle.kex_core.specs.declared.place.Place.{Place}
 use Rattle.kex_core.specs.declared.place.Place.TheVariants.{Out, Dec, Mark, Look, Spin, Naming, Named, Holding, Clearing, Inc, Unmark}
 use Rattle.kex_core.specs.Nets.{Plan, Valid}
 use Rattle.kex_core.specs.Worlds.{Machine, due, value_found, after, move, run, opening, Parties}
 use Rattle.kex_core.specs.Laws.{Kept}
 use Rattle.kex_core.specs.Costs.{cost, bound, is_spin, kept_at, firsts_after, firsts}
-use Rattle.kex_core.proofs.Sums.{same_or, chosen, eq_test, ne_test, yes_is, no_is, put_here, put_else}
+use Rattle.kex_core.proofs.Sums.{same_or, chosen, ne_test, yes_is, no_is, put_here, put_else}
 use Rattle.kex_core.proofs.Runs.{row_is, kept_opening, kept_move}
 use Rattle.kex_core.proofs.Exports.{firsts_step}
 use Rattle.kex_core.proofs.Costs.{cost_bound}
@@ -56,7 +57,7 @@ module _ (net : Plan) (valid : Valid net) (p : ℕ) (mine : p < net.parties) whe
 
   step_low : (w : Machine) → Kept net w → (q n : ℕ) → n ≤ cost net p (w.place p) → firsts_after net w p q n ≤ cost net p ((move net w q).place p)
   step_low w kept q n h = ⊎_elim
-      (λ (e : q ≡ p). let a = yes_is (eqb q p) (kept_at ((move net w p).place p) (n + 1 - is_spin (due net p (w.place p)))) n (eq_test q p e) in
+      (λ (e : q ≡ p). let a = yes_is (eqb q p) (kept_at ((move net w p).place p) (n + 1 - is_spin (due net p (w.place p)))) n (eq-eqb q p e) in
       let b = mine_low w kept n h in
       let c : cost net p ((move net w q).place p) ≡ cost net p ((move net w p).place p) = ap (λ (r : ℕ). cost net p ((move net w r).place p)) e in omega arith)
       (λ (d : q ≢ p). let a = no_is (eqb q p) (kept_at ((move net w p).place p) (n + 1 - is_spin (due net p (w.place p)))) n (ne_test q p d) in

@@ -1,13 +1,14 @@
 -- What holds of a world in which the counters count and a counter at its end is watched: at most c pass, and at most c + 1 are within.
 use Rattle.std.proofs.Common.{◌≡◌, ◌≢◌, ◌⊎◌, ℕ, ◌+◌, ◌<◌, ◌≤◌, true, cond, eqb, sym, ap, subst, ⊎_elim, arith}
 use Rattle.std.proofs.lemmas.Bool.Decides.{nat_tests}
+use Rattle.std.proofs.lemmas.Bool.{eq-eqb}
 use Rattle.kex_core.specs.declared.place.Place.{Place}
 use Rattle.kex_core.specs.declared.place.Place.TheVariants.{Out, Dec, Mark, Look, Spin, Naming, Named, Holding, Clearing, Inc, Unmark}
 use Rattle.kex_core.specs.Nets.{Plan, Valid, over, starts, feeds, on_path, before}
 use Rattle.kex_core.specs.Worlds.{Machine, due}
 use Rattle.kex_core.specs.Laws.{Stage, Placed, Waits}
 use Rattle.kex_core.proofs.Thresholds.{starts_at, feeds_at, counted_to, within_to, between_to, passed_to, below, reaches, counted, within, through, inside}
-use Rattle.kex_core.proofs.Sums.{same_or, eq_test, yes_is, over_le, over_add, over_lt, over_has, over_swap, over_cond}
+use Rattle.kex_core.proofs.Sums.{same_or, yes_is, over_le, over_add, over_lt, over_has, over_swap, over_cond}
 use Rattle.kex_core.proofs.Moves.{below_yes, below_no, below_le, below_is, below_one, due_below, before_is}
 use Rattle.kex_core.proofs.Steps.{split, usual_counted, usual_passed, placed_due}
 
@@ -117,12 +118,12 @@ module _ (net : Plan) (valid : Valid net) (w : Machine) (base : Base net w) wher
       (λ (z : below net p (within_to net.stages (due net p (w.place p))) j ≢ 0).
       let most = below_one net p (within_to net.stages (due net p (w.place p))) j in
       let h = below_is net p (within_to net.stages (due net p (w.place p))) j (omega arith) in ⊎_elim
-      (λ (e : net.start p ≡ j). let a : starts_at net p j ≡ 1 = yes_is (eqb (net.start p) j) 1 0 (eq_test (net.start p) j e) in omega arith)
+      (λ (e : net.start p ≡ j). let a : starts_at net p j ≡ 1 = yes_is (eqb (net.start p) j) 1 0 (eq-eqb (net.start p) j e) in omega arith)
       (λ (d : net.start p ≢ j). let r = before_is net valid p m j l h.0 d in let b = r.2 in let low = h.1 in
       let c = within_passed net.stages (due net p (w.place p)) in
       let y = below_yes net p (passed_to net.stages (due net p (w.place p))) (before net p j) r.1 (omega arith) in
       let u = due_below net valid p m (passed_to net.stages) (usual_passed net valid p m) (split net p) (w.place p) (before net p j) (omega arith) in
-      let f : fed j p (before net p j) ≡ below net p (passed_to net.stages (w.place p)) (before net p j) = yes_is (eqb (net.next (before net p j)) j) (below net p (passed_to net.stages (w.place p)) (before net p j)) 0 (eq_test (net.next (before net p j)) j r.0) in
+      let f : fed j p (before net p j) ≡ below net p (passed_to net.stages (w.place p)) (before net p j) = yes_is (eqb (net.next (before net p j)) j) (below net p (passed_to net.stages (w.place p)) (before net p j)) 0 (eq-eqb (net.next (before net p j)) j r.0) in
       let v = over_has net.stages (fed j p) (before net p j) (omega arith) in omega arith)
       (same_or (net.start p) j))
       (same_or (below net p (within_to net.stages (due net p (w.place p))) j) 0)

@@ -1,5 +1,6 @@
 -- Each access but a read of Q costs one, and the place bounds what was spent.
 use Rattle.std.proofs.Common.{◌≡◌, ◌≢◌, ◌⊎◌, ℕ, ◌+◌, ◌-◌, ◌*◌, ◌<◌, ◌≤◌, true, cond, eqb, min, refl, ap, ◌∙◌, ⊎_elim, inl, inr, arith}
+use Rattle.std.proofs.lemmas.Bool.{eqb-true}
 use Rattle.kex_core.specs.declared.place.Place.{Place}
 use Rattle.kex_core.specs.declared.place.Place.TheVariants.{Out, Dec, Mark, Look, Spin, Naming, Named, Holding, Clearing, Inc, Unmark}
 use Rattle.kex_core.specs.Nets.{Plan, Valid, on_path, before}
@@ -7,7 +8,7 @@ use Rattle.kex_core.specs.Worlds.{due, place_past, back, after}
 use Rattle.kex_core.specs.Laws.{Stage, Placed}
 use Rattle.kex_core.specs.Costs.{rank, depth, cost, bound, is_spin}
 use Rattle.kex_core.proofs.Thresholds.{below}
-use Rattle.kex_core.proofs.Sums.{chosen, eq_from, ne_from, over_le, over_same, over_zero, over_one}
+use Rattle.kex_core.proofs.Sums.{chosen, ne_from, over_le, over_same, over_zero, over_one}
 use Rattle.kex_core.proofs.Moves.{below_yes, below_no, below_le, below_same, next_below, start_low, before_is}
 
 module _ (net : Plan) (valid : Valid net) (p : ℕ) (mine : p < net.parties) where
@@ -28,7 +29,7 @@ module _ (net : Plan) (valid : Valid net) (p : ℕ) (mine : p < net.parties) whe
 
   cost_passed : (j : ℕ) → Stage net p j → 3 * rank net p j + 3 ≤ cost net p (place_past net j)
   cost_passed j s = let a = rank_next j s in chosen (λ (q : Place). 3 * rank net p j + 3 ≤ cost net p q) (eqb (net.next j) net.stages) (cond (eqb net.width 1) (Named 0) (Naming 0)) (Dec (net.next j))
-      (λ e. let f : rank net p (net.next j) ≡ depth net p = ap (rank net p) (eq_from (net.next j) net.stages e) in
+      (λ e. let f : rank net p (net.next j) ≡ depth net p = ap (rank net p) (eqb-true (net.next j) net.stages e) in
       chosen (λ (q : Place). 3 * rank net p j + 3 ≤ cost net p q) (eqb net.width 1) (Named 0) (Naming 0) (λ _. omega arith) (λ _. omega arith))
       (λ _. omega arith)
 
@@ -45,7 +46,7 @@ module _ (net : Plan) (valid : Valid net) (p : ℕ) (mine : p < net.parties) whe
   cost_step (Look j) n o h = let a = cost_passed j h in inr (chosen (λ (q : Place). 3 * rank net p j + 2 + 1 ≤ cost net p q + 0) (eqb n 0) (Spin j) (place_past net j) (λ _. omega arith) (λ _. omega arith))
   cost_step (Spin j) n o h = let a = cost_passed j h in inr (chosen (λ (q : Place). 3 * rank net p j + 3 + 1 ≤ cost net p q + 1) (eqb n (p + 1)) (Spin j) (place_past net j) (λ _. omega arith) (λ _. omega arith))
   cost_step (Naming i) n o h = let l = h.0 in inr (chosen (λ (q : Place). 3 * depth net p + i + 1 ≤ cost net p q + 0) (eqb n 0) (Named i) (cond (eqb (i + 2) net.width) (Named (i + 1)) (Naming (i + 1))) (λ _. omega arith)
-      (λ _. chosen (λ (q : Place). 3 * depth net p + i + 1 ≤ cost net p q + 0) (eqb (i + 2) net.width) (Named (i + 1)) (Naming (i + 1)) (λ e. let f = eq_from (i + 2) net.width e in omega arith) (λ _. omega arith)))
+      (λ _. chosen (λ (q : Place). 3 * depth net p + i + 1 ≤ cost net p q + 0) (eqb (i + 2) net.width) (Named (i + 1)) (Naming (i + 1)) (λ e. let f = eqb-true (i + 2) net.width e in omega arith) (λ _. omega arith)))
   cost_step (Named s) n o h = inr (omega arith)
   cost_step (Holding s) n o h = let l = h.0 in chosen (λ (q : Place). (q ≡ Out) ⊎ (3 * depth net p + min (s + 1) (net.width - 1) + 1 + 1 ≤ cost net p q + 0)) (eqb (s + 1) net.width) (back net p net.stages) (Clearing s)
       (λ e. ⊎_elim inl (λ (b : 5 * depth net p + net.width + 2 - 2 * depth net p ≤ cost net p (back net p net.stages)). inr (omega arith)) (cost_back net.stages (omega arith) h.1))
@@ -56,7 +57,7 @@ module _ (net : Plan) (valid : Valid net) (p : ℕ) (mine : p < net.parties) whe
 
   pub cost_due : (q : Place) → cost net p (due net p q) ≡ cost net p q
   cost_due Out = chosen (λ (r : Place). cost net p r ≡ 0) (eqb (net.start p) net.stages) (Naming 0) (Dec (net.start p))
-      (λ e. let a = rank_start in let f : rank net p (net.start p) ≡ depth net p = ap (rank net p) (eq_from (net.start p) net.stages e) in omega arith) (λ _. let a = rank_start in omega arith)
+      (λ e. let a = rank_start in let f : rank net p (net.start p) ≡ depth net p = ap (rank net p) (eqb-true (net.start p) net.stages e) in omega arith) (λ _. let a = rank_start in omega arith)
   cost_due (Dec j) = refl
   cost_due (Mark j) = refl
   cost_due (Look j) = refl

@@ -5,7 +5,7 @@ use Rattle.kex_core.specs.declared.place.Place.TheVariants.{Out, Dec, Named, Hol
 use Rattle.kex_core.specs.Nets.{Plan, Valid}
 use Rattle.kex_core.specs.Worlds.{Machine, due, after, machine_after_access, move}
 use Rattle.kex_core.specs.Laws.{Stage, Placed, Kept}
-use Rattle.kex_core.specs.Costs.{cost, bound, is_spin}
+use Rattle.kex_core.specs.Costs.{cost, is_spin}
 use Rattle.kex_core.proofs.Sums.{over_has}
 use Rattle.kex_core.proofs.Moves.{below_yes, due_below}
 use Rattle.kex_core.proofs.Steps.{split, usual_counted, placed_due}
@@ -13,7 +13,7 @@ use Rattle.kex_core.proofs.Thresholds.{counted_to, below, KeptTo}
 use Rattle.kex_core.proofs.Keeps.{dec_room, named_home, holding_out}
 use Rattle.kex_core.proofs.Readings.{kept_to}
 use Rattle.kex_core.proofs.Runs.{row_is, kept_move}
-use Rattle.kex_core.proofs.Costs.{cost_step, cost_due, cost_bound}
+use Rattle.kex_core.proofs.Costs.{cost_step, cost_due}
 
 module _ (net : Plan) (valid : Valid net) (w : Machine) (kept : Kept net w) (p : ℕ) (mine : p < net.parties) (d : Place) (is : due net p (w.place p) ≡ d) where
   to : KeptTo net w
@@ -44,10 +44,6 @@ module _ (net : Plan) (valid : Valid net) (w : Machine) (kept : Kept net w) (p :
 
   pub card_away : (s : ℕ) → d ≡ Holding s → w.card s ≡ 1
   card_away s e = let h = subst (Placed net p) e due_placed in holding_out net valid w to p mine s (let l = h.0 in l) (is ∙ e)
-
-  -- the accesses so far, and with this one
-  pub firsts_low : (firsts : ℕ) → firsts ≤ cost net p (w.place p) → firsts ≤ bound net p d
-  firsts_low firsts h = let a = cost_due net valid p mine (w.place p) in let b = cost_bound net valid p mine d due_placed in let c : cost net p (due net p (w.place p)) ≡ cost net p d = ap (cost net p) is in omega arith
 
   pub firsts_step : (firsts n : ℕ) → d ≢ Out → firsts ≤ cost net p (w.place p) → (after net p d n ≡ Out) ⊎ (firsts + 1 ≤ cost net p (after net p d n) + is_spin d)
   firsts_step firsts n o h = let a = cost_due net valid p mine (w.place p) in let c : cost net p (due net p (w.place p)) ≡ cost net p d = ap (cost net p) is in

@@ -1,19 +1,17 @@
 -- Each move keeps the laws, and the laws make the machine safe.
 use Rattle.std.proofs.Common.{◌≡◌, ◌≢◌, ◌⊎◌, ℕ, zero, suc, ◌+◌, ◌-◌, ◌<◌, ◌≤◌, Bool, true, false, cond, eqb, sym, refl, ap, ◌∙◌, subst, ⊎_elim, inl, inr, arith}
 use Rattle.std.proofs.lemmas.Bool.Decides.{nat_tests}
+use Rattle.std.proofs.lemmas.Bool.{cases_lt, eqb-true, eq-eqb}
 use Rattle.kex_core.specs.declared.place.Place.{Place}
 use Rattle.kex_core.specs.declared.place.Place.TheVariants.{Out, Dec, Mark, Look, Spin, Naming, Named, Holding, Clearing, Inc, Unmark}
 use Rattle.kex_core.specs.Nets.{Plan, Valid, over, before}
 use Rattle.kex_core.specs.Worlds.{Machine, put, due, place_past, back, value_found, after, x_after, q_after, bit_after, card_after, machine_after_access}
 use Rattle.kex_core.specs.Laws.{Stage, Placed, Waits}
 use Rattle.kex_core.proofs.Thresholds.{counted_to, within_to, between_to, below, reaches, owns, holds, counted, between, between_others, KeptTo}
-use Rattle.kex_core.proofs.Sums.{same_or, chosen, eq_test, eq_from, yes_is, put_here, put_else, put_at, over_le, over_same, over_lt, over_lt_two, over_one, over_has, over_but, over_some}
+use Rattle.kex_core.proofs.Sums.{same_or, chosen, yes_is, put_here, put_else, put_at, over_le, over_same, over_lt, over_lt_two, over_one, over_has, over_but, over_some}
 use Rattle.kex_core.proofs.Moves.{below_yes, below_no, below_le, below_one, due_below}
 use Rattle.kex_core.proofs.Steps.{split, usual_counted, usual_between, placed_due, placed_local, count_local, between_local, reach_local, owns_local, holds_local}
 use Rattle.kex_core.proofs.Bounds.{Base, counted_between, within_le, inside_le, due_inside, uncounted}
-
-less_or : (i j : ℕ) → (i < j) ⊎ (j ≤ i)
-less_or i j = grind arith
 
 naming_is : (j i : ℕ) → Naming j ≡ Naming i → j ≡ i
 naming_is j i e = cc
@@ -149,7 +147,7 @@ base_of net w kept = record { placed = kept.placed; counters = kept.counters; wa
 -- one party at most owns a name
 pub owns_one : (net : Plan) (w : Machine) → KeptTo net w → (s : ℕ) → s < net.width → over net.parties (λ p. owns s (w.place p)) ≤ 1
 owns_one net w kept s l = ⊎_elim (λ (a : s + 1 < net.width). let b = kept.bits s a in let c = kept.bit_small s a in omega arith)
-    (λ (a : net.width ≤ s + 1). let b = over_le net.parties (λ (p : ℕ). owns s (w.place p)) (λ (p : ℕ). reaches s (w.place p)) (λ p _. owns_reach s (w.place p)) in let c = kept.names s l in omega arith) (less_or (s + 1) net.width)
+    (λ (a : net.width ≤ s + 1). let b = over_le net.parties (λ (p : ℕ). owns s (w.place p)) (λ (p : ℕ). reaches s (w.place p)) (λ p _. owns_reach s (w.place p)) in let c = kept.names s l in omega arith) (cases_lt (s + 1) net.width)
 
 module _ (net : Plan) (valid : Valid net) (w : Machine) (kept : KeptTo net w) (p : ℕ) (mine : p < net.parties) where
   abbrev spot : Place
@@ -259,8 +257,8 @@ module _ (net : Plan) (valid : Valid net) (w : Machine) (kept : KeptTo net w) (p
   my_watch j z h = ⊎_elim
       (λ (e : w.place p ≡ Mark j). let s : spot ≡ Mark j = ap (due net p) e in inr (inl (here_now (Mark j) (Look j) s refl), ap (λ (d : Place). q_after p d w.q j) s ∙ put_here w.q j (p + 1)))
       (λ (t : ((w.place p ≡ Look j) ⊎ (w.place p ≡ Spin j)) × (w.q j ≡ p + 1)). ⊎_elim
-      (λ (e : w.place p ≡ Look j). let s : spot ≡ Look j = ap (due net p) e in inr (inr (here_now (Look j) (Spin j) s (choose_yes (eqb (w.x j) 0) (Spin j) (place_past net j) (eq_test (w.x j) 0 z))), ap (λ (d : Place). q_after p d w.q j) s ∙ t.1))
-      (λ (e : w.place p ≡ Spin j). let s : spot ≡ Spin j = ap (due net p) e in inr (inr (here_now (Spin j) (Spin j) s (choose_yes (eqb (w.q j) (p + 1)) (Spin j) (place_past net j) (eq_test (w.q j) (p + 1) t.1))), ap (λ (d : Place). q_after p d w.q j) s ∙ t.1)) t.0) h
+      (λ (e : w.place p ≡ Look j). let s : spot ≡ Look j = ap (due net p) e in inr (inr (here_now (Look j) (Spin j) s (choose_yes (eqb (w.x j) 0) (Spin j) (place_past net j) (eq-eqb (w.x j) 0 z))), ap (λ (d : Place). q_after p d w.q j) s ∙ t.1))
+      (λ (e : w.place p ≡ Spin j). let s : spot ≡ Spin j = ap (due net p) e in inr (inr (here_now (Spin j) (Spin j) s (choose_yes (eqb (w.q j) (p + 1)) (Spin j) (place_past net j) (eq-eqb (w.q j) (p + 1) t.1))), ap (λ (d : Place). q_after p d w.q j) s ∙ t.1)) t.0) h
 
   their_watch : (q j : ℕ) → q ≢ p → q_after p spot w.q j ≡ w.q j → Waits w q j → (place q ≡ Mark j) ⊎ (((place q ≡ Look j) ⊎ (place q ≡ Spin j)) × (q_after p spot w.q j ≡ q + 1))
   their_watch q j d same h = let e = place_else q d in ⊎_elim (λ (a : w.place q ≡ Mark j). inl (e ∙ a))
@@ -274,7 +272,7 @@ module _ (net : Plan) (valid : Valid net) (w : Machine) (kept : KeptTo net w) (p
       (λ (t : ((spot ≡ Mark j) ⊎ (spot ≡ Unmark j)) × (q_after p spot w.q j ≡ p + 1)). ⊎_elim
       (λ (s : spot ≡ Mark j). (p, mine, inr (inl (here_now (Mark j) (Look j) s refl), t.1)))
       (λ (s : spot ≡ Unmark j). let u = unmark_room j s in absurd (omega arith)) t.0) (q_cases j)) (same_or (r.0) p))
-      (λ (t : (spot ≡ Dec j) × (w.x j ≡ 1)). (p, mine, inl (here_now (Dec j) (Mark j) t.0 (choose_yes (eqb (w.x j) 1) (Mark j) (place_past net j) (eq_test (w.x j) 1 t.1))))) (x_cases j z)
+      (λ (t : (spot ≡ Dec j) × (w.x j ≡ 1)). (p, mine, inl (here_now (Dec j) (Mark j) t.0 (choose_yes (eqb (w.x j) 1) (Mark j) (place_past net j) (eq-eqb (w.x j) 1 t.1))))) (x_cases j z)
 
   base_after : Base net moved
   base_after = record { placed = placed_after; counters = count_after; watched = full_after }
@@ -307,9 +305,9 @@ module _ (net : Plan) (valid : Valid net) (w : Machine) (kept : KeptTo net w) (p
       go (Dec i) s h = absurd (chosen (λ (q : Place). q ≡ Spin j → ⊥) (eqb (w.x i) 1) (Mark i) (place_past net i) (λ _ h. cc) (λ _. no_pass i j) h)
       go (Mark i) s h = absurd (cc)
       go (Look i) s h = inl (chosen (λ (q : Place). q ≡ Spin j → (spot ≡ Look j) × (w.x j ≡ 0)) (eqb (w.x i) 0) (Spin i) (place_past net i)
-          (λ t h. let e = spin_is i j h in (s ∙ ap Look e, ap w.x (sym e) ∙ eq_from (w.x i) 0 t)) (λ _ h. absurd (no_pass i j h)) h)
+          (λ t h. let e = spin_is i j h in (s ∙ ap Look e, ap w.x (sym e) ∙ eqb-true (w.x i) 0 t)) (λ _ h. absurd (no_pass i j h)) h)
       go (Spin i) s h = inr (chosen (λ (q : Place). q ≡ Spin j → (spot ≡ Spin j) × (w.q j ≡ p + 1)) (eqb (w.q i) (p + 1)) (Spin i) (place_past net i)
-          (λ t h. let e = spin_is i j h in (s ∙ ap Spin e, ap w.q (sym e) ∙ eq_from (w.q i) (p + 1) t)) (λ _ h. absurd (no_pass i j h)) h)
+          (λ t h. let e = spin_is i j h in (s ∙ ap Spin e, ap w.q (sym e) ∙ eqb-true (w.q i) (p + 1) t)) (λ _ h. absurd (no_pass i j h)) h)
       go (Naming i) s h = absurd (chosen (λ (q : Place). q ≡ Spin j → ⊥) (eqb (w.bit i) 0) (Named i) (cond (eqb (i + 2) net.width) (Named (i + 1)) (Naming (i + 1))) (λ _ h. cc)
           (λ _. chosen (λ (q : Place). q ≡ Spin j → ⊥) (eqb (i + 2) net.width) (Named (i + 1)) (Naming (i + 1)) (λ _ h. cc) (λ _ h. cc)) h)
       go (Named i) s h = absurd (cc)
@@ -408,13 +406,13 @@ module _ (net : Plan) (valid : Valid net) (w : Machine) (kept : KeptTo net w) (p
   pub named_home : (s : ℕ) → s < net.width → spot ≡ Named s → w.card s ≡ 0
   named_home s l e = let a = owns_one net w kept s l in let b = kept.cards s l in
       let u = due_owns s (w.place p) in let v = due_holds s (w.place p) in
-      let x : owns s spot ≡ 1 = ap (owns s) e ∙ yes_is (eqb s s) 1 0 (eq_test s s refl) in
+      let x : owns s spot ≡ 1 = ap (owns s) e ∙ yes_is (eqb s s) 1 0 (eq-eqb s s refl) in
       let y : holds s spot ≡ 0 = ap (holds s) e in
       let c = over_lt net.parties (λ (q : ℕ). holds s (w.place q)) (λ (q : ℕ). owns s (w.place q)) p mine (λ q _. holds_owns s (w.place q)) (omega arith) in omega arith
 
   pub holding_out : (s : ℕ) → s < net.width → spot ≡ Holding s → w.card s ≡ 1
   holding_out s l e = let b = kept.cards s l in let v = due_holds s (w.place p) in let m = kept.card_small s l in
-      let y : holds s spot ≡ 1 = ap (holds s) e ∙ yes_is (eqb s s) 1 0 (eq_test s s refl) in
+      let y : holds s spot ≡ 1 = ap (holds s) e ∙ yes_is (eqb s s) 1 0 (eq-eqb s s refl) in
       let c = over_has net.parties (λ (q : ℕ). holds s (w.place q)) p mine in omega arith
 
   cards_after : (s : ℕ) → s < net.width → over net.parties (λ q. holds s (place q)) ≡ card_after spot w.card s

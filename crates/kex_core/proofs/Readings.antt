@@ -1,13 +1,14 @@
 -- The sets of specs/ are those that the thresholds give, wherever a place lies on its party's path.
 use Rattle.std.proofs.Common.{◌≡◌, ℕ, ◌+◌, ◌<◌, Bool, true, false, cond, eqb, leb, ltb, ◌&&◌, ◌||◌, not, sym, refl, ap, ◌∙◌, subst, arith}
 use Rattle.std.proofs.lemmas.Bool.Decides.{nat_tests}
+use Rattle.std.proofs.Math.Bool.{and-true, or-false}
 use Rattle.kex_core.specs.declared.place.Place.{Place}
 use Rattle.kex_core.specs.declared.place.Place.TheVariants.{Out, Dec, Mark, Look, Spin, Naming, Named, Holding, Clearing, Inc, Unmark}
 use Rattle.kex_core.specs.Nets.{Plan, over, on_path}
 use Rattle.kex_core.specs.Worlds.{Machine}
 use Rattle.kex_core.specs.Sets.{position_of, name_of, held_at, has, is_inside, is_counted, is_within, is_between, is_passed, size, others, positions, owners, holders, insiders}
 use Rattle.kex_core.specs.Laws.{Stage, Placed, Kept}
-use Rattle.kex_core.proofs.Thresholds.{counted_to, within_to, between_to, passed_to, below, reaches, owns, holds, counted, within, between, through, inside, between_others, KeptTo}
+use Rattle.kex_core.proofs.Thresholds.{counted_to, within_to, between_to, passed_to, below, reaches, owns, holds, counted, within, through, inside, between_others, KeptTo}
 use Rattle.kex_core.proofs.Sums.{over_same}
 
 -- at a place of stage i, the tests for stage j
@@ -38,14 +39,6 @@ more i j h = grind (arith, nat_tests)
 not_at : (i j : ℕ) → (ltb j (i + 1) && not (eqb i j)) ≡ ltb j i
 not_at i j = grind (arith, nat_tests)
 
-or_no : (b : Bool) → (b || false) ≡ b
-or_no true = refl
-or_no false = refl
-
-and_yes : (b : Bool) → (b && true) ≡ b
-and_yes true = refl
-and_yes false = refl
-
 module _ (net : Plan) (p j : ℕ) (low : j < net.stages) where
   pub counted_is : (d : Place) → Placed net p d → is_counted net p j d ≡ ltb j (counted_to net.stages d)
   counted_is Out h = at_out j
@@ -61,21 +54,21 @@ module _ (net : Plan) (p j : ℕ) (low : j < net.stages) where
   counted_is (Unmark i) h = at_dec i j (on_path net p i) h.1
 
   pub between_is : (d : Place) → Placed net p d → is_between net p j d ≡ ltb j (between_to net.stages d)
-  between_is Out h = or_no (is_counted net p j Out) ∙ counted_is Out h
-  between_is (Dec i) h = or_no (is_counted net p j (Dec i)) ∙ counted_is (Dec i) h
-  between_is (Mark i) h = or_no (is_counted net p j (Mark i)) ∙ counted_is (Mark i) h
-  between_is (Look i) h = or_no (is_counted net p j (Look i)) ∙ counted_is (Look i) h
-  between_is (Spin i) h = or_no (is_counted net p j (Spin i)) ∙ counted_is (Spin i) h
-  between_is (Naming i) h = or_no (is_counted net p j (Naming i)) ∙ counted_is (Naming i) h
-  between_is (Named s) h = or_no (is_counted net p j (Named s)) ∙ counted_is (Named s) h
-  between_is (Holding s) h = or_no (is_counted net p j (Holding s)) ∙ counted_is (Holding s) h
-  between_is (Clearing s) h = or_no (is_counted net p j (Clearing s)) ∙ counted_is (Clearing s) h
-  between_is (Inc i) h = or_no (is_counted net p j (Inc i)) ∙ counted_is (Inc i) h
+  between_is Out h = or-false (is_counted net p j Out) ∙ counted_is Out h
+  between_is (Dec i) h = or-false (is_counted net p j (Dec i)) ∙ counted_is (Dec i) h
+  between_is (Mark i) h = or-false (is_counted net p j (Mark i)) ∙ counted_is (Mark i) h
+  between_is (Look i) h = or-false (is_counted net p j (Look i)) ∙ counted_is (Look i) h
+  between_is (Spin i) h = or-false (is_counted net p j (Spin i)) ∙ counted_is (Spin i) h
+  between_is (Naming i) h = or-false (is_counted net p j (Naming i)) ∙ counted_is (Naming i) h
+  between_is (Named s) h = or-false (is_counted net p j (Named s)) ∙ counted_is (Named s) h
+  between_is (Holding s) h = or-false (is_counted net p j (Holding s)) ∙ counted_is (Holding s) h
+  between_is (Clearing s) h = or-false (is_counted net p j (Clearing s)) ∙ counted_is (Clearing s) h
+  between_is (Inc i) h = or-false (is_counted net p j (Inc i)) ∙ counted_is (Inc i) h
   between_is (Unmark i) h = ap (λ (b : Bool). b || eqb i j) (counted_is (Unmark i) h) ∙ or_next i j
 
   pub within_is : (d : Place) → Placed net p d → is_within net p j d ≡ ltb j (within_to net.stages d)
   within_is Out h = between_is Out h
-  within_is (Dec i) h = or_no (eqb i j || is_counted net p j (Dec i)) ∙ (ap (λ (b : Bool). eqb i j || b) (counted_is (Dec i) h) ∙ next_or i j)
+  within_is (Dec i) h = or-false (eqb i j || is_counted net p j (Dec i)) ∙ (ap (λ (b : Bool). eqb i j || b) (counted_is (Dec i) h) ∙ next_or i j)
   within_is (Mark i) h = between_is (Mark i) h
   within_is (Look i) h = between_is (Look i) h
   within_is (Spin i) h = between_is (Spin i) h
@@ -87,17 +80,17 @@ module _ (net : Plan) (p j : ℕ) (low : j < net.stages) where
   within_is (Unmark i) h = between_is (Unmark i) h
 
   pub passed_is : (d : Place) → Placed net p d → is_passed net p j d ≡ ltb j (passed_to net.stages d)
-  passed_is Out h = and_yes (is_counted net p j Out) ∙ counted_is Out h
-  passed_is (Dec i) h = and_yes (is_counted net p j (Dec i)) ∙ counted_is (Dec i) h
+  passed_is Out h = and-true (is_counted net p j Out) ∙ counted_is Out h
+  passed_is (Dec i) h = and-true (is_counted net p j (Dec i)) ∙ counted_is (Dec i) h
   passed_is (Mark i) h = ap (λ (b : Bool). b && not (eqb i j)) (counted_is (Mark i) h) ∙ not_at i j
   passed_is (Look i) h = ap (λ (b : Bool). b && not (eqb i j)) (counted_is (Look i) h) ∙ not_at i j
   passed_is (Spin i) h = ap (λ (b : Bool). b && not (eqb i j)) (counted_is (Spin i) h) ∙ not_at i j
-  passed_is (Naming i) h = and_yes (is_counted net p j (Naming i)) ∙ counted_is (Naming i) h
-  passed_is (Named s) h = and_yes (is_counted net p j (Named s)) ∙ counted_is (Named s) h
-  passed_is (Holding s) h = and_yes (is_counted net p j (Holding s)) ∙ counted_is (Holding s) h
-  passed_is (Clearing s) h = and_yes (is_counted net p j (Clearing s)) ∙ counted_is (Clearing s) h
-  passed_is (Inc i) h = and_yes (is_counted net p j (Inc i)) ∙ counted_is (Inc i) h
-  passed_is (Unmark i) h = and_yes (is_counted net p j (Unmark i)) ∙ counted_is (Unmark i) h
+  passed_is (Naming i) h = and-true (is_counted net p j (Naming i)) ∙ counted_is (Naming i) h
+  passed_is (Named s) h = and-true (is_counted net p j (Named s)) ∙ counted_is (Named s) h
+  passed_is (Holding s) h = and-true (is_counted net p j (Holding s)) ∙ counted_is (Holding s) h
+  passed_is (Clearing s) h = and-true (is_counted net p j (Clearing s)) ∙ counted_is (Clearing s) h
+  passed_is (Inc i) h = and-true (is_counted net p j (Inc i)) ∙ counted_is (Inc i) h
+  passed_is (Unmark i) h = and-true (is_counted net p j (Unmark i)) ∙ counted_is (Unmark i) h
 
 abbrev one_if : Bool → ℕ
 one_if b = cond b 1 0
@@ -183,9 +176,6 @@ module _ (net : Plan) (w : Machine) (placed : (p : ℕ) → p < net.parties → 
 
   pub size_within : (j : ℕ) → j < net.stages → size is_within net w j ≡ within net w j
   size_within j l = size_is is_within within_to j (λ p d h. within_is net p j l d h)
-
-  pub size_between : (j : ℕ) → j < net.stages → size is_between net w j ≡ between net w j
-  size_between j l = size_is is_between between_to j (λ p d h. between_is net p j l d h)
 
   pub size_passed : (j : ℕ) → j < net.stages → size is_passed net w j ≡ through net w j
   size_passed j l = size_is is_passed passed_to j (λ p d h. passed_is net p j l d h)

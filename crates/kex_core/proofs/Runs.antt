@@ -9,8 +9,8 @@ use Rattle.kex_core.specs.Laws.{Placed, Kept, Safe}
 use Rattle.kex_core.proofs.Thresholds.{below, holds, reaches, KeptTo}
 use Rattle.std.proofs.lemmas.Bool.Decides.{nat_tests}
 use Rattle.std.specs.Prelude.{Some, is_some}
-use Rattle.kex_core.proofs.Sums.{same_or, eq_test, yes_is, over_same, over_two, over_zero, over_le}
-use Rattle.kex_core.proofs.Paths.{lt_is}
+use Rattle.std.proofs.lemmas.Bool.{lt-ltb, eq-eqb}
+use Rattle.kex_core.proofs.Sums.{same_or, yes_is, over_same, over_two, over_zero, over_le}
 use Rattle.kex_core.proofs.Moves.{below_no}
 use Rattle.kex_core.proofs.Bounds.{through_le}
 use Rattle.kex_core.proofs.Keeps.{base_of, kept_step}
@@ -23,10 +23,10 @@ module _ (net : Plan) where
   opening_to : KeptTo net (opening net)
   opening_to = record {
     placed = λ p _. tt;
-    counters = λ j l. let z = none_to j in let y = yes_is (ltb j net.stages) (net.cap j + 1) 0 (lt_is j net.stages l) in omega arith;
+    counters = λ j l. let z = none_to j in let y = yes_is (ltb j net.stages) (net.cap j + 1) 0 (lt-ltb j net.stages l) in omega arith;
     within = λ j _. let z = none_to j in omega arith;
     inside = let z = over_zero net.parties in omega arith;
-    watched = λ j l h. let y = yes_is (ltb j net.stages) (net.cap j + 1) 0 (lt_is j net.stages l) in absurd (omega arith);
+    watched = λ j l h. let y = yes_is (ltb j net.stages) (net.cap j + 1) 0 (lt-ltb j net.stages l) in absurd (omega arith);
     waits = λ p j _ e _. absurd (cc);
     names = λ i l. let z = over_zero net.parties in omega arith;
     bits = λ i _. over_zero net.parties;
@@ -110,7 +110,7 @@ module _ (net : Plan) where
           holding p s e h = subst (Placed net p) e h
 
       at_one : (p s : ℕ) → w.place p ≡ Holding s → holds s (w.place p) ≡ 1
-      at_one p s e = ap (holds s) e ∙ yes_is (eqb s s) 1 0 (eq_test s s refl)
+      at_one p s e = ap (holds s) e ∙ yes_is (eqb s s) 1 0 (eq-eqb s s refl)
 
       apart : (p q s : ℕ) → p < net.parties → q < net.parties → w.place p ≡ Holding s → w.place q ≡ Holding s → p ≡ q
       apart p q s l m e f = ⊎_elim (λ (i : p ≡ q). i)

@@ -1,13 +1,14 @@
 -- One access, set by set, for the party that makes it.
 use Rattle.std.proofs.Common.{◌≡◌, ◌≢◌, ◌⊎◌, ℕ, ◌+◌, ◌-◌, ◌<◌, ◌≤◌, true, cond, eqb, ltb, sym, refl, ap, subst, ⊎_elim, inl, inr, arith}
 use Rattle.std.proofs.lemmas.Bool.Decides.{nat_tests}
+use Rattle.std.proofs.lemmas.Bool.{eqb-true, eq-eqb}
 use Rattle.kex_core.specs.declared.place.Place.{Place}
 use Rattle.kex_core.specs.declared.place.Place.TheVariants.{Out, Dec, Mark, Look, Spin, Naming, Named, Holding, Clearing, Inc, Unmark}
 use Rattle.kex_core.specs.Nets.{Plan, Valid, on_path, before}
 use Rattle.kex_core.specs.Worlds.{Machine, put, due, place_past, back, value_found, after, x_after, bit_after, card_after}
 use Rattle.kex_core.specs.Laws.{Stage, Placed}
 use Rattle.kex_core.proofs.Thresholds.{counted_to, between_to, passed_to, below, reaches, owns, holds}
-use Rattle.kex_core.proofs.Sums.{same_or, chosen, eq_test, ne_test, eq_from, ne_from, put_else, put_at, yes_is, no_is}
+use Rattle.kex_core.proofs.Sums.{same_or, chosen, ne_test, ne_from, put_else, put_at, yes_is, no_is}
 use Rattle.kex_core.proofs.Moves.{below_yes, below_no, below_le, below_same, Usual, passed_below, back_below, path_start, path_next, before_is, exit_wide}
 
 pub split : (net : Plan) (p : ℕ) (q : Place) → (q ≡ Out) ⊎ (due net p q ≡ q)
@@ -105,7 +106,7 @@ module _ (net : Plan) (valid : Valid net) (p : ℕ) (mine : p < net.parties) whe
   placed_passed : (j : ℕ) → Stage net p j → Placed net p (place_past net j)
   placed_passed j s = let o = path_next net valid p mine j s.0 s.1 in let wide = valid.wide in let high = valid.next_high j s.0 in
       chosen (Placed net p) (eqb (net.next j) net.stages) (cond (eqb net.width 1) (Named 0) (Naming 0)) (Dec (net.next j))
-      (λ e. let t : on_path net p net.stages ≡ true = subst (λ (i : ℕ). on_path net p i ≡ true) (eq_from (net.next j) net.stages e) o in
+      (λ e. let t : on_path net p net.stages ≡ true = subst (λ (i : ℕ). on_path net p i ≡ true) (eqb-true (net.next j) net.stages e) o in
       chosen (Placed net p) (eqb net.width 1) (Named 0) (Naming 0) (λ _. (omega arith, t)) (λ f. let g = ne_from net.width 1 f in (omega arith, t)))
       (λ e. let g = ne_from (net.next j) net.stages e in (omega arith, o))
 
@@ -129,7 +130,7 @@ module _ (net : Plan) (valid : Valid net) (p : ℕ) (mine : p < net.parties) whe
 
   pub placed_due : (q : Place) → Placed net p q → Placed net p (due net p q)
   placed_due Out h = chosen (Placed net p) (eqb (net.start p) net.stages) (Naming 0) (Dec (net.start p))
-      (λ e. let f = eq_from (net.start p) net.stages e in let wide = exit_wide net valid p mine f in (omega arith, subst (λ (i : ℕ). on_path net p i ≡ true) f (path_start net valid p mine)))
+      (λ e. let f = eqb-true (net.start p) net.stages e in let wide = exit_wide net valid p mine f in (omega arith, subst (λ (i : ℕ). on_path net p i ≡ true) f (path_start net valid p mine)))
       (λ e. let d = ne_from (net.start p) net.stages e in let l = valid.start p mine in (omega arith, path_start net valid p mine))
   placed_due (Dec j) h = h
   placed_due (Mark j) h = h
@@ -167,7 +168,7 @@ module _ (net : Plan) (valid : Valid net) (p : ℕ) (mine : p < net.parties) whe
 
   owns_passed : (k j : ℕ) → k + 1 < net.width → owns k (place_past net j) ≡ 0
   owns_passed k j l = chosen (λ (q : Place). owns k q ≡ 0) (eqb (net.next j) net.stages) (cond (eqb net.width 1) (Named 0) (Naming 0)) (Dec (net.next j))
-      (λ _. chosen (λ (q : Place). owns k q ≡ 0) (eqb net.width 1) (Named 0) (Naming 0) (λ e. let f = eq_from net.width 1 e in absurd (omega arith)) (λ _. refl)) (λ _. refl)
+      (λ _. chosen (λ (q : Place). owns k q ≡ 0) (eqb net.width 1) (Named 0) (Naming 0) (λ e. let f = eqb-true net.width 1 e in absurd (omega arith)) (λ _. refl)) (λ _. refl)
 
   owns_back : (k j : ℕ) → owns k (back net p j) ≡ 0
   owns_back k j = chosen (λ (q : Place). owns k q ≡ 0) (eqb (net.start p) j) Out (Inc (before net p j)) (λ _. refl) (λ _. refl)
@@ -189,7 +190,7 @@ module _ (net : Plan) (valid : Valid net) (p : ℕ) (mine : p < net.parties) whe
   owns_local w (Naming i) k l b o = ⊎_elim
       (λ (e : k ≡ i). let c = put_at w.bit i 1 k e in let f : w.bit k ≡ w.bit i = ap w.bit e in
       chosen (λ (q : Place). owns k q + w.bit k ≡ 0 + put w.bit i 1 k) (eqb (w.bit i) 0) (Named i) (cond (eqb (i + 2) net.width) (Named (i + 1)) (Naming (i + 1)))
-      (λ t. let z = eq_from (w.bit i) 0 t in let y = yes_is (eqb i k) 1 0 (eq_test i k (sym e)) in omega arith)
+      (λ t. let z = eqb-true (w.bit i) 0 t in let y = yes_is (eqb i k) 1 0 (eq-eqb i k (sym e)) in omega arith)
       (λ t. let z = ne_from (w.bit i) 0 t in let y = none i k (omega arith) in omega arith))
       (λ (e : k ≢ i). let c = put_else w.bit i 1 k e in
       chosen (λ (q : Place). owns k q + w.bit k ≡ 0 + put w.bit i 1 k) (eqb (w.bit i) 0) (Named i) (cond (eqb (i + 2) net.width) (Named (i + 1)) (Naming (i + 1)))
@@ -197,12 +198,12 @@ module _ (net : Plan) (valid : Valid net) (p : ℕ) (mine : p < net.parties) whe
       (λ t. let y = none i k l in omega arith)) (same_or k i)
     where
       none : (i k : ℕ) → k + 1 < net.width → owns k (cond (eqb (i + 2) net.width) (Named (i + 1)) (Naming (i + 1))) ≡ 0
-      none i k l = chosen (λ (q : Place). owns k q ≡ 0) (eqb (i + 2) net.width) (Named (i + 1)) (Naming (i + 1)) (λ t. let z = eq_from (i + 2) net.width t in no_is (eqb (i + 1) k) 1 0 (ne_test (i + 1) k (λ f. omega arith))) (λ _. refl)
+      none i k l = chosen (λ (q : Place). owns k q ≡ 0) (eqb (i + 2) net.width) (Named (i + 1)) (Naming (i + 1)) (λ t. let z = eqb-true (i + 2) net.width t in no_is (eqb (i + 1) k) 1 0 (ne_test (i + 1) k (λ f. omega arith))) (λ _. refl)
   owns_local w (Named s) k l b o = refl
   owns_local w (Holding s) k l b o = chosen (λ (q : Place). owns k q + w.bit k ≡ cond (eqb s k) 1 0 + w.bit k) (eqb (s + 1) net.width) (back net p net.stages) (Clearing s)
-      (λ t. let z = eq_from (s + 1) net.width t in let a = owns_back k net.stages in let y = no_is (eqb s k) 1 0 (ne_test s k (λ f. omega arith)) in omega arith) (λ _. refl)
+      (λ t. let z = eqb-true (s + 1) net.width t in let a = owns_back k net.stages in let y = no_is (eqb s k) 1 0 (ne_test s k (λ f. omega arith)) in omega arith) (λ _. refl)
   owns_local w (Clearing s) k l b o = let a = owns_back k net.stages in ⊎_elim
-      (λ (e : k ≡ s). let c = put_at w.bit s 0 k e in let y = yes_is (eqb s k) 1 0 (eq_test s k (sym e)) in omega arith)
+      (λ (e : k ≡ s). let c = put_at w.bit s 0 k e in let y = yes_is (eqb s k) 1 0 (eq-eqb s k (sym e)) in omega arith)
       (λ (e : k ≢ s). let c = put_else w.bit s 0 k e in let y = no_is (eqb s k) 1 0 (ne_test s k (λ f. e (sym f))) in omega arith) (same_or k s)
   owns_local w (Inc j) k l b o = refl
   owns_local w (Unmark j) k l b o = ap (λ (t : ℕ). t + w.bit k) (owns_back k j)
@@ -217,11 +218,11 @@ module _ (net : Plan) (valid : Valid net) (p : ℕ) (mine : p < net.parties) whe
   holds_local w (Naming i) k n o l = ap (λ (t : ℕ). t + w.card k) (chosen (λ (q : Place). holds k q ≡ 0) (eqb (w.bit i) 0) (Named i) (cond (eqb (i + 2) net.width) (Named (i + 1)) (Naming (i + 1))) (λ _. refl)
       (λ _. chosen (λ (q : Place). holds k q ≡ 0) (eqb (i + 2) net.width) (Named (i + 1)) (Naming (i + 1)) (λ _. refl) (λ _. refl)))
   holds_local w (Named s) k n o l = ⊎_elim
-      (λ (e : k ≡ s). let c = put_at w.card s 1 k e in let y = yes_is (eqb s k) 1 0 (eq_test s k (sym e)) in let z = n (ap Named (sym e)) in omega arith)
+      (λ (e : k ≡ s). let c = put_at w.card s 1 k e in let y = yes_is (eqb s k) 1 0 (eq-eqb s k (sym e)) in let z = n (ap Named (sym e)) in omega arith)
       (λ (e : k ≢ s). let c = put_else w.card s 1 k e in let y = no_is (eqb s k) 1 0 (ne_test s k (λ f. e (sym f))) in omega arith) (same_or k s)
   holds_local w (Holding s) k n o l =
       let a : holds k (after net p (Holding s) (w.card s)) ≡ 0 = chosen (λ (q : Place). holds k q ≡ 0) (eqb (s + 1) net.width) (back net p net.stages) (Clearing s) (λ _. holds_back k net.stages) (λ _. refl) in ⊎_elim
-      (λ (e : k ≡ s). let c = put_at w.card s 0 k e in let y = yes_is (eqb s k) 1 0 (eq_test s k (sym e)) in omega arith)
+      (λ (e : k ≡ s). let c = put_at w.card s 0 k e in let y = yes_is (eqb s k) 1 0 (eq-eqb s k (sym e)) in omega arith)
       (λ (e : k ≢ s). let c = put_else w.card s 0 k e in let y = no_is (eqb s k) 1 0 (ne_test s k (λ f. e (sym f))) in omega arith) (same_or k s)
   holds_local w (Clearing s) k n o l = ap (λ (t : ℕ). t + w.card k) (holds_back k net.stages)
   holds_local w (Inc j) k n o l = refl

@@ -1,6 +1,7 @@
 -- Sums over the numbers below a bound.
 use Rattle.std.proofs.Common.{◌≡◌, ◌≢◌, ◌⊎◌, ℕ, zero, suc, ◌+◌, ◌<◌, ◌≤◌, Bool, true, false, cond, eqb, sym, refl, ap, ◌∙◌, subst, ⊎_elim, inl, inr, arith}
 use Rattle.std.proofs.lemmas.Bool.Decides.{nat_tests}
+use Rattle.std.proofs.lemmas.Bool.{eq-eqb}
 use native.Mathlib.Decide.{ℕ_discrete}
 use Rattle.kex_core.specs.Nets.{over}
 use Rattle.kex_core.specs.Worlds.{put}
@@ -18,17 +19,11 @@ pub chosen : {X : Type 0} (P : X → Type 0) (b : Bool) (x y : X) → (b ≡ tru
 chosen P true x y h k = h refl
 chosen P false x y h k = k refl
 
-pub eq_test : (i j : ℕ) → i ≡ j → eqb i j ≡ true
-eq_test i j e = grind (arith, nat_tests)
-
 pub ne_test : (i j : ℕ) → i ≢ j → eqb i j ≡ false
 ne_test i j d = grind (arith, nat_tests)
 
-pub eq_from : (i j : ℕ) → eqb i j ≡ true → i ≡ j
-eq_from i j h = grind (arith, nat_tests)
-
 pub ne_from : (i j : ℕ) → eqb i j ≡ false → i ≢ j
-ne_from i j h e = cc (eq_test i j e)
+ne_from i j h e = cc (eq-eqb i j e)
 
 pub over_le : (n : ℕ) (f g : ℕ → ℕ) → ((k : ℕ) → k < n → f k ≤ g k) → over n f ≤ over n g
 over_le zero f g h = omega arith
@@ -77,14 +72,14 @@ over_swap zero m f = sym (over_zero m)
 over_swap (suc n) m f = let b = over_swap n m f in let a = over_add m (f n) (λ i. over n (λ p. f p i)) in omega arith
 
 pub put_here : {X : Type 0} (f : ℕ → X) (i : ℕ) (c : X) → put f i c i ≡ c
-put_here f i c = ap (λ (b : Bool). cond b c (f i)) (eq_test i i refl)
+put_here f i c = ap (λ (b : Bool). cond b c (f i)) (eq-eqb i i refl)
 
 pub put_else : {X : Type 0} (f : ℕ → X) (i : ℕ) (c : X) (j : ℕ) → j ≢ i → put f i c j ≡ f j
 put_else f i c j d = ap (λ (b : Bool). cond b c (f j)) (ne_test j i d)
 
 -- one and the others
 pub over_but : (n : ℕ) (f : ℕ → ℕ) (p : ℕ) → p < n → over n (but p f) + f p ≡ over n f
-over_but n f p l = let a = over_one n f (but p f) p l (λ k m d. ap (λ (b : Bool). cond b 0 (f k)) (ne_test k p d)) in let b : but p f p ≡ 0 = ap (λ (b : Bool). cond b 0 (f p)) (eq_test p p refl) in omega arith
+over_but n f p l = let a = over_one n f (but p f) p l (λ k m d. ap (λ (b : Bool). cond b 0 (f k)) (ne_test k p d)) in let b : but p f p ≡ 0 = ap (λ (b : Bool). cond b 0 (f p)) (eq-eqb p p refl) in omega arith
 
 pub yes_is : (b : Bool) (x y : ℕ) → b ≡ true → cond b x y ≡ x
 yes_is true x y e = refl
@@ -95,7 +90,7 @@ no_is true x y e = absurd (cc)
 no_is false x y e = refl
 
 pub put_at : {X : Type 0} (f : ℕ → X) (i : ℕ) (c : X) (j : ℕ) → j ≡ i → put f i c j ≡ c
-put_at f i c j e = ap (λ (b : Bool). cond b c (f j)) (eq_test j i e)
+put_at f i c j e = ap (λ (b : Bool). cond b c (f j)) (eq-eqb j i e)
 
 pub over_cond : (b : Bool) (n : ℕ) (f : ℕ → ℕ) (c : ℕ) → over n f ≤ c → over n (λ p. cond b (f p) 0) ≤ cond b c 0
 over_cond true n f c h = h
@@ -105,7 +100,7 @@ abbrev pub one_at : ℕ → ℕ → ℕ
 one_at i k = cond (eqb k i) 1 0
 
 pub one_has : (n i : ℕ) → i < n → 1 ≤ over n (one_at i)
-one_has n i l = let a = over_has n (one_at i) i l in let b : one_at i i ≡ 1 = yes_is (eqb i i) 1 0 (eq_test i i refl) in omega arith
+one_has n i l = let a = over_has n (one_at i) i l in let b : one_at i i ≡ 1 = yes_is (eqb i i) 1 0 (eq-eqb i i refl) in omega arith
 
 -- strictly at two places
 pub over_lt_two : (n : ℕ) (f g : ℕ → ℕ) (i j : ℕ) → i < n → j < n → i ≢ j → ((k : ℕ) → k < n → f k ≤ g k) → f i < g i → f j < g j → over n f + 2 ≤ over n g
@@ -117,10 +112,10 @@ over_lt_two n f g i j l m d h s t =
   where
     point : (k : ℕ) → k < n → f k + (one_at i k + one_at j k) ≤ g k
     point k kl = let z = h k kl in ⊎_elim
-        (λ (e : k ≡ i). let a : one_at i k ≡ 1 = yes_is (eqb k i) 1 0 (eq_test k i e) in let b : one_at j k ≡ 0 = no_is (eqb k j) 1 0 (ne_test k j (λ q. d (sym e ∙ q))) in
+        (λ (e : k ≡ i). let a : one_at i k ≡ 1 = yes_is (eqb k i) 1 0 (eq-eqb k i e) in let b : one_at j k ≡ 0 = no_is (eqb k j) 1 0 (ne_test k j (λ q. d (sym e ∙ q))) in
         let w : f k < g k = subst (λ (x : ℕ). f x < g x) (sym e) s in omega arith)
         (λ (e : k ≢ i). let a : one_at i k ≡ 0 = no_is (eqb k i) 1 0 (ne_test k i e) in ⊎_elim
-        (λ (q : k ≡ j). let b : one_at j k ≡ 1 = yes_is (eqb k j) 1 0 (eq_test k j q) in let w : f k < g k = subst (λ (x : ℕ). f x < g x) (sym q) t in omega arith)
+        (λ (q : k ≡ j). let b : one_at j k ≡ 1 = yes_is (eqb k j) 1 0 (eq-eqb k j q) in let w : f k < g k = subst (λ (x : ℕ). f x < g x) (sym q) t in omega arith)
         (λ (q : k ≢ j). let b : one_at j k ≡ 0 = no_is (eqb k j) 1 0 (ne_test k j q) in omega arith) (same_or k j)) (same_or k i)
 
 -- some summand isn't 0

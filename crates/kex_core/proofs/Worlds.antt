@@ -2,6 +2,7 @@
 use Rattle.std.proofs.Common.{◌≡◌, ◌⊎◌, ℕ, ◌+◌, ◌<◌, ◌≤◌, ◌^◌, List, length, set, get_or, slice_index, sym, ap, ◌∙◌, subst, ⊎_elim, arith, length-set}
 use Rattle.std.proofs.lemmas.List.{get_or_past}
 use Rattle.std.proofs.lemmas.Grind.{common_steps}
+use Rattle.std.proofs.lemmas.Bool.{cases_lt}
 use Rattle.kex_core.specs.declared.place.Place.{Place}
 use Rattle.kex_core.specs.declared.place.Place.TheVariants.{Out, Dec, Mark, Look, Spin, Naming, Named, Holding, Clearing, Inc, Unmark}
 use Rattle.kex_core.specs.Nets.{Plan}
@@ -73,10 +74,7 @@ module _ (s : State) (world : IsWorld s) (p : ℕ) (mine : p < s.net.parties) (d
 pub step_room : (s : State) → IsWorld s → (j : ℕ) → slice_index s.counters j + 1 < 2 ^ 64
 step_room s world j = ⊎_elim
     (λ (l : j < length s.net.caps). let a = world.kept.counters j l in let b = world.net.caps j in omega arith)
-    (λ (l : length s.net.caps ≤ j). let a = world.counters in let b : slice_index s.counters j ≡ 0 = get_or_past s.counters j 0 (omega arith) in omega arith) (less_or j (length s.net.caps))
-  where
-    less_or : (i j : ℕ) → (i < j) ⊎ (j ≤ i)
-    less_or i j = grind arith
+    (λ (l : length s.net.caps ≤ j). let a = world.counters in let b : slice_index s.counters j ≡ 0 = get_or_past s.counters j 0 (omega arith) in omega arith) (cases_lt j (length s.net.caps))
 
 pub same_place : (l : List Place) (i : ℕ) (x : Place) → i < length l → x ≡ get_or l i x → x ≡ get_or l i Out
 same_place l i x h e = e ∙ any l i x Out h

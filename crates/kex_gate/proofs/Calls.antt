@@ -1,5 +1,5 @@
 -- A session's seat at its gate's table.
-use Rattle.std.proofs.Common.{◌≡◌, ℕ, ◌+◌, ◌-◌, ◌*◌, ◌%◌, ◌^◌, ◌<◌, ◌≤◌, cond, min, Bool, true, false, List, [], ◌∷◌, ◌++◌, sym, refl, ap, ◌∙◌, subst, arith, Option, Some, None, eq-eqb, ne_eqb}
+use Rattle.std.proofs.Common.{◌≡◌, ℕ, ◌+◌, ◌-◌, ◌*◌, ◌%◌, ◌^◌, ◌<◌, ◌≤◌, cond, min, Bool, true, false, List, [], ◌∷◌, ◌++◌, sym, refl, ap, ◌∙◌, subst, arith, Option, Some, None}
 use mathlib.Core.Option.{none}
 use Rattle.atomic_table.specs.Seated.{TableId}
 use Rattle.atomic_table.specs.Table.{step, rest, Allows}
@@ -15,7 +15,7 @@ use Rattle.kex_gate.specs.declared.view.View.{View}
 use Rattle.kex_gate.specs.Passes.{Gate, Guest, Way, IsSetUp, sessions, resting, slow_seats, own_pass, guest_with_visit, room_word, bit_word}
 use Rattle.pass_roles.specs.Roles.{number_of}
 use Rattle.kex_gate.specs.Rule.{IsGate}
-use Rattle.kex_gate.specs.Steps.{Self, spot_at, last_of, IsSession, IsIdle, IsLane, StandsAt, GoesOn, guest_of, way_of, pass_at, is_fast, meets_others, tested_bit, went_out, went_home, cleared_bit, gave, gave_slow, entered_view, Meets}
+use Rattle.kex_gate.specs.Steps.{Self, last_of, IsSession, IsIdle, IsLane, StandsAt, GoesOn, guest_of, way_of, pass_at, meets_others, tested_bit, went_out, went_home, cleared_bit, gave, gave_slow}
 use Rattle.kex_gate.proofs.Words.{comes, test_bit, clear_bit, gives, gives_slow}
 use Rattle.kex_gate.proofs.Moving.{leaves_slot, comes_home, last_snoc}
 
@@ -59,20 +59,6 @@ module _ (id : TableId) (told seats : TableNet) (n m : ℕ) (self : Gate) (seat_
 -- what is in hand, once the value of the slot taken last was put in its place
 pub held : (c : List (ℕ × Option Pass)) (k : ℕ) (x : Option Pass) (t : List (ℕ × Option Pass)) → c ≡ (k, x) ∷ t → c ≡ (k, x) ∷ rest c
 held c k x t e = e ∙ ap (λ (z : List (ℕ × Option Pass)). (k, x) ∷ z) (sym (ap rest e))
-
-abbrev front_or : Option Pass → List (ℕ × Option Pass) → Option Pass
-front_or d [] = d
-front_or d (x ∷ xs) = x.1
-
-pub same_hand : (c : List (ℕ × Option Pass)) (k j : ℕ) (x y : Option Pass) (t u : List (ℕ × Option Pass)) → c ≡ (k, x) ∷ t → c ≡ (j, y) ∷ u → x ≡ y
-same_hand c k j x y t u p q = ap (front_or x) (sym p ∙ q)
-
--- spots on the way to a pass
-pub spot_before : (m i : ℕ) → i + 1 < m → spot_at m i ≡ Testing i
-spot_before m i l = ap (λ (b : Bool). cond b (Taking i) (Testing i)) (ne_eqb (i + 1) m (λ e. omega arith))
-
-pub spot_last : (m i : ℕ) → i + 1 ≡ m → spot_at m i ≡ Taking i
-spot_last m i e = ap (λ (b : Bool). cond b (Taking i) (Testing i)) (eq-eqb (i + 1) m e)
 
 module _ (id : TableId) (told seats : TableNet) (n m : ℕ) (self : Gate) (seat_id : TableId) (me : Self) (up : IsSetUp id told seats n m) (self_is : record { id = id; seats = seats } ≡ self) (own : seat_id ≡ self.id) (seats_is : me.0.seats ≡ self.seats) (is : me.0.role ≡ Party (number_of me.0.role)) where
   -- the pass p was put into the slot in hand
@@ -168,34 +154,6 @@ idle_slow v me own x session own_is id' hand empty me_is = subst (λ (z : Self).
   own_is = own_is ∙ ap (resting v.seats (number_of v.role)) (sym (slow_slow v.visits x));
 }
 
--- which pass a session came with
-pub came_fast : (v : View) (own : Option Pass) (g : Guest) (hand : List (ℕ × Option Pass)) (a : Spot) → StandsAt own g v.seats.net.width hand a → is_fast a ≡ true → (sessions v.seats.net ≤ (pass_at v a).number) × ((pass_at v a).number < sessions v.seats.net + v.seats.net.width)
-came_fast v own g hand (Fast i) s e = let l = s.0 in (omega arith, omega arith)
-came_fast v own g hand Slow s e = absurd (cc)
-came_fast v own g hand Free s e = absurd s
-came_fast v own g hand (Testing i) s e = absurd s
-came_fast v own g hand (Taking i) s e = absurd s
-came_fast v own g hand (Clearing i) s e = absurd s
-came_fast v own g hand Giving s e = absurd s
-
-pub came_slow : (v : View) (a : Spot) → is_fast a ≡ false → (pass_at v a).number ≡ number_of v.role
-came_slow v (Fast i) e = absurd (cc)
-came_slow v Slow e = refl
-came_slow v Free e = refl
-came_slow v (Testing i) e = refl
-came_slow v (Taking i) e = refl
-came_slow v (Clearing i) e = refl
-came_slow v Giving e = refl
-
-pub came_table : (v : View) (a : Spot) → (pass_at v a).table ≡ v.seats
-came_table v (Fast i) = refl
-came_table v Slow = refl
-came_table v Free = refl
-came_table v (Testing i) = refl
-came_table v (Taking i) = refl
-came_table v (Clearing i) = refl
-came_table v Giving = refl
-
 -- a pass of the gate makes at most 4m accesses until it holds, m being the number of seats
 pub few_firsts : (told seats : TableNet) (id : TableId) (n m : ℕ) (self : Gate) → IsSetUp id told seats n m → record { id = id; seats = seats } ≡ self
     → ((n k : ℕ) (s : Sheet) (p : ℕ) → 2 ≤ n → 1 ≤ k → 2 * min k n < n → n + min k n ≤ 256 → IsGated n k s → n ≤ p → p < n + min k n → depth (plan s) p ≤ min k n)
@@ -221,10 +179,3 @@ visit_is id id' v w x k g b f a l same w_is x_is g_is f_is = (λ i. guest_of (sa
 
 pub last_taken : (p h : Pass) (q : Pass) (k : ℕ) → GoesOn p h (k ∷ []) → q.got ≡ h.got → last_of q.got ≡ k
 last_taken p h q k on got = ap last_of (got ∙ on.got) ∙ last_snoc p.got k
-
--- what a session met that took its place, and where it came
-pub took_place : (m m' : Self) (n : ℕ) → (k : ℕ) × Meets m.0 k × (n + k ≡ 256 + m.0.seats.net.width) × (m' ≡ (entered_view m.0 n k, m.1))
-    → Meets m.0 m'.0.met × (n + m'.0.met ≡ 256 + m.0.seats.net.width) × (m' ≡ (entered_view m.0 n m'.0.met, m.1))
-took_place m m' n t =
-    let k_is : t.0 ≡ m'.0.met = sym (ap (λ (z : Self). z.0.met) t.3) in
-    subst (λ (k : ℕ). Meets m.0 k × (n + k ≡ 256 + m.0.seats.net.width) × (m' ≡ (entered_view m.0 n k, m.1))) k_is (t.1, t.2, t.3)

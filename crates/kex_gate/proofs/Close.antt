@@ -137,9 +137,6 @@ drop_whole [] (suc n) e = refl
 drop_whole (x ∷ xs) zero e = absurd (omega arith)
 drop_whole (x ∷ xs) (suc n) e = drop_whole xs n (omega arith)
 
-pub slots_end : (f : Option Pass → ℕ) (a n b : ℕ) (xs : List (Option Pass)) → length xs ≡ n → a + total f (drop n xs) ≡ b → a ≡ b
-slots_end f a n b xs e so = let d : total f (drop n xs) ≡ 0 = ap (total f) (drop_whole xs n e) in omega arith
-
 -- one more pass is taken in
 pub number_more : (q : ℕ) (before after : List ℕ) (p : Pass) → after ≡ p.number ∷ before → times q after ≡ times q before + slot_number q (Some p)
 number_more q before after p e = let a = ap (times q) e in let b = times_append q (p.number ∷ []) before in omega arith

@@ -1,11 +1,11 @@
 -- Sums over views, and what one spot is worth in them.
-use Rattle.std.proofs.Common.{◌≡◌, ◌≢◌, ℕ, suc, ◌+◌, ◌<◌, ◌≤◌, List, [], ◌∷◌, ◌++◌, refl, arith}
+use Rattle.std.proofs.Common.{◌≡◌, ℕ, suc, ◌+◌, ◌≤◌, List, [], ◌∷◌, ◌++◌, refl, arith}
 use mathlib.Core.Option.{some}
 use lib.ListN.{get_elem?}
 use Rattle.pass_roles.specs.Roles.{total}
 use Rattle.kex_gate.specs.declared.view.Spot.{Spot}
 use Rattle.kex_gate.specs.declared.view.Spot.TheVariants.{Free, Testing, Taking, Fast, Clearing, Giving, Slow}
-use Rattle.kex_gate.specs.Rule.{up_to, just, busy, within, reaches, owns, is_out}
+use Rattle.kex_gate.specs.Rule.{just, busy, within, reaches, owns, is_out}
 
 module _ {X : Type 0} where
   pub total_le : (f g : X → ℕ) (l : List X) → ((j : ℕ) (v : X) → get_elem? l j ≡ some v → f v ≤ g v) → total f l ≤ total g l
@@ -101,12 +101,3 @@ out_owns i Slow = omega arith
 
 pub just_here : (i : ℕ) → just i i ≡ 1
 just_here i = omega arith
-
-pub just_there : (i k : ℕ) → i ≢ k → just i k ≡ 0
-just_there i k n = omega arith
-
-pub up_to_near : (i k : ℕ) → i ≤ k → up_to i k ≡ 1
-up_to_near i k l = omega arith
-
-pub up_to_far : (i k : ℕ) → k < i → up_to i k ≡ 0
-up_to_far i k l = omega arith

@@ -1,5 +1,6 @@
 -- A pass leaves its slot and comes home.
 use Rattle.std.proofs.Common.{◌≡◌, ◌≢◌, ℕ, ◌+◌, ◌<◌, ◌≤◌, eqb, true, List, [], ◌∷◌, ◌++◌, get_or, set, sym, refl, ap, ◌∙◌, subst, ⊎_elim, inl, inr, arith, length-set, Option, Some}
+use Rattle.std.proofs.lemmas.Bool.{eqb-true}
 use mathlib.Core.Option.{none, some}
 use mathlib.Core.Logic.{dite}
 use native.Mathlib.Decide.{dec_le}
@@ -7,7 +8,7 @@ use lib.ListN.{get_elem?}
 use lib.Seq.{set-get_or}
 use Rattle.atomic_table.specs.Table.{step, takes, gives, Allows}
 use Rattle.atomic_table.proofs.Lists.{set_here, set_else}
-use Rattle.kex_core.proofs.Sums.{chosen, same_or, eq_from, ne_from}
+use Rattle.kex_core.proofs.Sums.{chosen, same_or, ne_from}
 use Rattle.kex_words.specs.Passes.{TableNet, Pass}
 use Rattle.pass_roles.specs.Roles.{total, number_of}
 use Rattle.pass_roles.proofs.Members.{total_has, total_set, at_inside}
@@ -121,7 +122,7 @@ module _ (me : Self) (is : me.0.role ≡ Party (number_of me.0.role)) where
   arrived_all s id i x r at e =
       let low : i < m = low_at s id v r at is (Fast i) e in
       chosen (After s id i x x) (eqb (i + 1) m) Giving (Clearing i)
-      (λ t. let last = eq_from (i + 1) m t in arrives s id i x r at e Giving tt refl refl (λ j k. omega arith) (λ j. omega arith) (λ j. refl) refl)
+      (λ t. let last = eqb-true (i + 1) m t in arrives s id i x r at e Giving tt refl refl (λ j k. omega arith) (λ j. omega arith) (λ j. refl) refl)
       (λ f. let on = ne_from (i + 1) m f in arrives s id i x r at e (Clearing i) (omega arith) refl refl (λ j k. refl) (λ j. omega arith) (λ j. refl) refl)
 
   pub comes_home : (slots id i x : ℕ) → v.spot ≡ Fast i → me.1 ≡ (i, Some (pass i (v.kept ++ x ∷ []))) ∷ [] → Allows (IsGate v.seats) slots id me 0 (λ n. n) (went_home (step slots 0 0 0 none) me)

@@ -99,15 +99,6 @@ splits_at id told seats n m self seat_id me seat i up self_is own me_is l =
       subst (λ (v : View). Splits (IsGate told) seat v (dealt_view v) (newcomer v)) (sym here) (deals seat (maker told i) i refl (omega arith)),
     )
 
--- where the first is taken out of a list, the others move down
-pub got_removed : {X : Type 0} (l m : List X) (k : ℕ) → m ≡ take 0 l ++ drop 1 l → slice_get m k ≡ slice_get l (suc k)
-got_removed [] m k e = ap (λ (z : List _). slice_get z k) e
-got_removed (x ∷ xs) m k e = ap (λ (z : List _). slice_get z k) e
-
-pub got_first : {X : Type 0} (l : List X) (x : X) → 0 < length l → x ≡ get_or l 0 x → slice_get l 0 ≡ Some x
-got_first [] x l e = absurd (omega arith)
-got_first (y ∷ ys) x l e = ap Some (sym e)
-
 pub sessions_is : (id : TableId) (told seats : TableNet) (n m : ℕ) (self : Gate) → IsSetUp id told seats n m → record { id = id; seats = seats } ≡ self → (sessions self.seats.net ≡ n) × (self.seats.net.width ≡ m) × (self.seats.net.parties ≡ n + m)
 sessions_is id told seats n m self up self_is =
     let p : self.seats.net.parties ≡ n + m = ap (λ (g : Gate). g.seats.net.parties) (sym self_is) ∙ up.parties in let w : self.seats.net.width ≡ m = ap (λ (g : Gate). g.seats.net.width) (sym self_is) ∙ up.width in

@@ -1,9 +1,10 @@
 -- The steps on the count of room and on the bits.
 use Rattle.std.proofs.Common.{◌≡◌, ◌≢◌, ℕ, ◌+◌, ◌-◌, ◌%◌, ◌^◌, ◌<◌, ◌≤◌, eqb, false, List, [], ◌∷◌, ◌++◌, get_or, set, sym, refl, ap, ◌∙◌, subst, ⊎_elim, arith, length-set, get_or-set_other, get_or-set_same}
+use Rattle.std.proofs.lemmas.Bool.{eqb-true}
 use mathlib.Core.Option.{none, some}
 use lib.ListN.{get_elem?}
 use Rattle.atomic_table.specs.Table.{step, keeps, Allows}
-use Rattle.kex_core.proofs.Sums.{chosen, same_or, eq_from, ne_from}
+use Rattle.kex_core.proofs.Sums.{chosen, same_or, ne_from}
 use Rattle.pass_roles.specs.Roles.{total, number_of}
 use Rattle.pass_roles.proofs.Members.{total_has}
 use Rattle.pass_roles.specs.declared.role.Role.TheVariants.{Party}
@@ -53,12 +54,12 @@ module _ (me : Self) (is : me.0.role ≡ Party (number_of me.0.role)) where
       let n : ℕ = get_or s.words room_word 0 in let y : ℕ = (n + (2 ^ 64 - 1)) % 2 ^ 64 in
       let room = r.room in let some_seats = r.some_seats in let busy_within = few_within v.seats s r in let first = reach_first s.views in let inside = r.inside in
       chosen (λ (q : Spot). After s id room_word y (record v { spot = q; met = total busy_in s.views })) (eqb (n - 256) 0) Slow (spot_at m 0)
-      (λ t. let full = eq_from (n - 256) 0 t in comes_at s id r at free Slow (omega arith) refl (λ i l. refl) (λ i. refl) refl (omega arith) (λ i l. let q = r.behind i l in omega arith))
+      (λ t. let full = eqb-true (n - 256) 0 t in comes_at s id r at free Slow (omega arith) refl (λ i l. refl) (λ i. refl) refl (omega arith) (λ i l. let q = r.behind i l in omega arith))
       (λ f. let far = ne_from (n - 256) 0 f in
       let behind : (i : ℕ) → i < m → total (reaches_in i) s.views + up_to i 0 + i ≤ m = λ i l.
       ⊎_elim (λ (e : i ≡ 0). let z : total (reaches_in i) s.views ≡ total (reaches_in 0) s.views = ap (λ (k : ℕ). total (reaches_in k) s.views) e in omega arith) (λ (d : i ≢ 0). let q = r.behind i l in omega arith) (same_or i 0) in
       chosen (λ (q : Spot). After s id room_word y (record v { spot = q; met = total busy_in s.views })) (eqb 1 m) (Taking 0) (Testing 0)
-      (λ t. let one = eq_from 1 m t in comes_at s id r at free (Taking 0) (omega arith) refl (λ i l. absurd (omega arith)) (λ i. refl) refl (omega arith) behind)
+      (λ t. let one = eqb-true 1 m t in comes_at s id r at free (Taking 0) (omega arith) refl (λ i l. absurd (omega arith)) (λ i. refl) refl (omega arith) behind)
       (λ g. let more = ne_from 1 m g in comes_at s id r at free (Testing 0) (omega arith) refl (λ i l. refl) (λ i. refl) refl (omega arith) behind))
 
   pub comes : (slots id : ℕ) → v.spot ≡ Free → Allows (IsGate v.seats) slots id me room_word (λ n. (n + (2 ^ 64 - 1)) % 2 ^ 64) (meets_others (step slots room_word 1 0 none) me)
@@ -110,9 +111,9 @@ module _ (me : Self) (is : me.0.role ≡ Party (number_of me.0.role)) where
   tested_all s id i r at e =
       let n : ℕ = get_or s.words (bit_word i) 0 in let low : i + 1 < m = low_at s id v r at is (Testing i) e in
       chosen (λ (q : Spot). After s id (bit_word i) 1 (view_at v q)) (eqb n 0) (Taking i) (spot_at m (i + 1))
-      (λ t. sets_clear s id i r at e (eq_from n 0 t))
+      (λ t. sets_clear s id i r at e (eqb-true n 0 t))
       (λ f. chosen (λ (q : Spot). After s id (bit_word i) 1 (view_at v q)) (eqb (i + 1 + 1) m) (Taking (i + 1)) (Testing (i + 1))
-      (λ t. let last = eq_from (i + 1 + 1) m t in sets_again s id i r at e (ne_from n 0 f) (Taking (i + 1)) (omega arith) refl refl (λ j. refl) (λ j l. omega arith) (λ j. refl) refl)
+      (λ t. let last = eqb-true (i + 1 + 1) m t in sets_again s id i r at e (ne_from n 0 f) (Taking (i + 1)) (omega arith) refl refl (λ j. refl) (λ j l. omega arith) (λ j. refl) refl)
       (λ g. let on = ne_from (i + 1 + 1) m g in sets_again s id i r at e (ne_from n 0 f) (Testing (i + 1)) (omega arith) refl refl (λ j. refl) (λ j l. refl) (λ j. refl) refl))
 
   pub test_bit : (slots id i : ℕ) → v.spot ≡ Testing i → Allows (IsGate v.seats) slots id me (bit_word i) (λ _. 1) (tested_bit (step slots (bit_word i) 1 0 none) me)

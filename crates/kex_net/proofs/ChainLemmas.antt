@@ -2,11 +2,12 @@
 use Rattle.std.proofs.Common.{◌≡◌, ◌≢◌, ◌⊎◌, ℕ, zero, suc, ◌+◌, ◌-◌, ◌<◌, ◌≤◌, ◌^◌, eqb, List, length, min, slice_index, sym, refl, ap, ◌∙◌, subst, ⊎_elim, inl, inr, arith}
 use Rattle.std.proofs.lemmas.List.{get_or_past, length-replicate}
 use Rattle.std.proofs.Math.ListN.{replicate}
+use Rattle.std.proofs.lemmas.Bool.{cases_lt, eq-eqb}
 use Rattle.kex_core.proofs.Openings.{replicate_at}
 use Rattle.kex_core.specs.Nets.{over, starts, feeds}
 use Rattle.kex_core.proofs.Thresholds.{starts_at, feeds_at}
 use Rattle.kex_core.specs.Shapes.{Sheet, sheet, plan, IsNet}
-use Rattle.kex_core.proofs.Sums.{over_one, over_zero, over_same, yes_is, no_is, eq_test, ne_test}
+use Rattle.kex_core.proofs.Sums.{over_one, over_zero, over_same, yes_is, no_is, ne_test}
 use Rattle.kex_net.specs.Chains.{IsChain}
 
 -- a sum of one summand
@@ -20,18 +21,15 @@ ones : (n : ℕ) → over n (λ (k : ℕ). 1) ≡ n
 ones zero = refl
 ones (suc n) = let a = ones n in omega arith
 
-less_or : (i j : ℕ) → (i < j) ⊎ (j ≤ i)
-less_or i j = grind arith
-
 pub min_facts : (k n : ℕ) → (min k n ≤ n) × (min k n ≤ k) × ((min k n ≡ n) ⊎ (min k n ≡ k))
-min_facts k n = ⊎_elim (λ (a : k < n). (omega arith, omega arith, inr (omega arith))) (λ (a : n ≤ k). (omega arith, omega arith, inl (omega arith))) (less_or k n)
+min_facts k n = ⊎_elim (λ (a : k < n). (omega arith, omega arith, inr (omega arith))) (λ (a : n ≤ k). (omega arith, omega arith, inl (omega arith))) (cases_lt k n)
 
 module _ (n k : ℕ) (two : 2 ≤ n) (small : n ≤ 256) (some : 1 ≤ k) (s : Sheet) (is : IsChain n k s) where
   start_none : (j : ℕ) → 0 < j → starts (plan s) j ≡ 0
   start_none j l = none s.parties (λ (p : ℕ). starts_at (plan s) p j) (λ p m. let w = is.parties in let z = is.start p (omega arith) in no_is (eqb (slice_index s.starts p) j) 1 0 (ne_test (slice_index s.starts p) j (λ e. omega arith)))
 
   start_all : starts (plan s) 0 ≡ n
-  start_all = over_same s.parties (λ (p : ℕ). starts_at (plan s) p 0) (λ (p : ℕ). 1) (λ p m. let w = is.parties in let z = is.start p (omega arith) in yes_is (eqb (slice_index s.starts p) 0) 1 0 (eq_test (slice_index s.starts p) 0 z)) ∙ (ones s.parties ∙ is.parties)
+  start_all = over_same s.parties (λ (p : ℕ). starts_at (plan s) p 0) (λ (p : ℕ). 1) (λ p m. let w = is.parties in let z = is.start p (omega arith) in yes_is (eqb (slice_index s.starts p) 0) 1 0 (eq-eqb (slice_index s.starts p) 0 z)) ∙ (ones s.parties ∙ is.parties)
 
   feed_none : feeds (plan s) 0 ≡ 0
   feed_none = none (length s.caps) (λ (i : ℕ). feeds_at (plan s) i 0) (λ i m. let z = is.next i m in no_is (eqb (slice_index s.nexts i) 0) (slice_index s.caps i) 0 (ne_test (slice_index s.nexts i) 0 (λ e. omega arith)))
@@ -39,7 +37,7 @@ module _ (n k : ℕ) (two : 2 ≤ n) (small : n ≤ 256) (some : 1 ≤ k) (s : S
   feed_one : (j : ℕ) → j < length s.caps → feeds (plan s) (j + 1) ≡ n - 1 - j
   feed_one j l = single (length s.caps) (λ (i : ℕ). feeds_at (plan s) i (j + 1)) j l
       (λ i m d. let z = is.next i m in no_is (eqb (slice_index s.nexts i) (j + 1)) (slice_index s.caps i) 0 (ne_test (slice_index s.nexts i) (j + 1) (λ e. d (omega arith))))
-      ∙ (yes_is (eqb (slice_index s.nexts j) (j + 1)) (slice_index s.caps j) 0 (eq_test (slice_index s.nexts j) (j + 1) (is.next j l)) ∙ is.cap j l)
+      ∙ (yes_is (eqb (slice_index s.nexts j) (j + 1)) (slice_index s.caps j) 0 (eq-eqb (slice_index s.nexts j) (j + 1) (is.next j l)) ∙ is.cap j l)
 
   room : (j : ℕ) → j < length s.caps → starts (plan s) j + feeds (plan s) j ≤ slice_index s.caps j + 1
   room zero l = let a = start_all in let b = feed_none in let c = is.cap 0 l in omega arith
@@ -51,7 +49,7 @@ module _ (n k : ℕ) (two : 2 ≤ n) (small : n ≤ 256) (some : 1 ≤ k) (s : S
       let w = is.width in let t = is.stages in let m = min_facts k n in let m0 = m.0 in omega arith
 
   caps_small : (j : ℕ) → slice_index s.caps j < 2 ^ 32
-  caps_small j = ⊎_elim (λ (l : j < length s.caps). let c = is.cap j l in omega arith) (λ (l : length s.caps ≤ j). let c : slice_index s.caps j ≡ 0 = get_or_past s.caps j 0 l in omega arith) (less_or j (length s.caps))
+  caps_small j = ⊎_elim (λ (l : j < length s.caps). let c = is.cap j l in omega arith) (λ (l : length s.caps ≤ j). let c : slice_index s.caps j ≡ 0 = get_or_past s.caps j 0 l in omega arith) (cases_lt j (length s.caps))
 
   pub chain_valid : IsNet s
   chain_valid = let w = is.width in let t = is.stages in let p = is.parties in let m = min_facts k n in let m0 = m.0 in let m2 = m.2 in record {

@@ -1,8 +1,9 @@
 -- How many can come to a stage, by lists of links: where each leads, and how many can take it.
 use Rattle.std.proofs.Common.{◌≡◌, ◌≢◌, ℕ, zero, suc, ◌+◌, ◌<◌, ◌≤◌, cond, eqb, List, [], ◌∷◌, ◌++◌, length, get_or, sum, refl, ap, ◌∙◌, ⊎_elim, arith}
 use Rattle.std.proofs.lemmas.List.Sums.{sum_by-cons}
+use Rattle.std.proofs.lemmas.Bool.{eq-eqb}
 use Rattle.kex_core.specs.Nets.{over}
-use Rattle.kex_core.proofs.Sums.{same_or, yes_is, no_is, eq_test, ne_test}
+use Rattle.kex_core.proofs.Sums.{same_or, yes_is, no_is, ne_test}
 
 -- so many come to j by a link to t
 abbrev pub link : ℕ → ℕ → ℕ → ℕ
@@ -14,12 +15,8 @@ inflow j [] cs = 0
 inflow j (t ∷ ts) [] = 0
 inflow j (t ∷ ts) (c ∷ cs) = cond (eqb t j) c 0 + inflow j ts cs
 
-pub inflow_none : (j : ℕ) (ts : List ℕ) → inflow j ts [] ≡ 0
-inflow_none j [] = refl
-inflow_none j (t ∷ ts) = refl
-
 pub at_it : (t j c : ℕ) → t ≡ j → cond (eqb t j) c 0 ≡ c
-at_it t j c e = yes_is (eqb t j) c 0 (eq_test t j e)
+at_it t j c e = yes_is (eqb t j) c 0 (eq-eqb t j e)
 
 pub not_at : (t j c : ℕ) → t ≢ j → cond (eqb t j) c 0 ≡ 0
 not_at t j c d = no_is (eqb t j) c 0 (ne_test t j d)

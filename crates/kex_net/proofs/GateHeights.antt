@@ -1,6 +1,7 @@
 -- How many stages are left on a path behind the gate: m in the chain, and before it those of the tree.
 use Rattle.std.proofs.Common.{◌≡◌, ◌⊎◌, ℕ, zero, suc, ◌+◌, ◌-◌, ◌*◌, ◌<◌, ◌≤◌, ◌/◌, min, List, ◌++◌, length, get_or, map, slice_index, sym, ap, ◌∙◌, ⊎_elim, arith}
 use Rattle.std.proofs.lemmas.List.{length-append, length-map, get_or_append_left, get_or-append-add, get_or-append_right, get_or-map, get_or_past}
+use Rattle.std.proofs.lemmas.Bool.{cases_lt}
 use Rattle.kex_core.specs.Shapes.{Sheet, plan}
 use Rattle.kex_core.specs.Costs.{depth}
 use Rattle.kex_net.specs.Trees.{bottom, falling, leading, Stages, levels_over}
@@ -68,11 +69,8 @@ module _ (n k : ℕ) (two : 2 ≤ n) (some : 1 ≤ k) (room : 2 * min k n < n) (
   tree_nexts = (tree_valid n k two (omega arith) some is.tree is.is_tree).sized.nexts
 
   falls : (j : ℕ) → j < length s.caps → h (slice_index s.nexts j) + 1 ≤ h j
-  falls j l = ⊎_elim (λ (a : j < e). in_tree a) (λ (a : e ≤ j). behind a) (less_or j e)
+  falls j l = ⊎_elim (λ (a : j < e). in_tree a) (λ (a : e ≤ j). behind a) (cases_lt j e)
     where
-      less_or : (i j : ℕ) → (i < j) ⊎ (j ≤ i)
-      less_or i j = grind arith
-
       in_tree : j < e → h (slice_index s.nexts j) + 1 ≤ h j
       in_tree a = let t = tree_nexts in let q : 0 + j ≡ j = omega arith in let w : length is.tree.nexts ≡ length whole.nexts = ap length is.is_tree.nexts in
           let v : slice_index s.nexts j ≡ get_or whole.nexts j 0 = ap (λ (x : List ℕ). slice_index x j) is.nexts ∙ (get_or_append_left is.tree.nexts (leading e (min k n) (length s.caps)) 0 j (omega arith) ∙ ap (λ (x : List ℕ). get_or x j 0) is.is_tree.nexts) in

@@ -2,6 +2,7 @@
 use Rattle.std.proofs.Common.{◌≡◌, ◌⊎◌, ℕ, zero, suc, ◌+◌, ◌-◌, ◌*◌, ◌/◌, ◌<◌, ◌≤◌, min, List, [], ◌∷◌, ◌++◌, length, get_or, sum, slice_index, sym, refl, ap, ◌∙◌, subst, ⊎_elim, arith}
 use Rattle.std.proofs.lemmas.List.{length-append, length-replicate, get_or-replicate, get_or_append_left, get_or-append-add}
 use Rattle.std.proofs.Math.ListN.{replicate}
+use Rattle.std.proofs.lemmas.Bool.{cases_lt}
 use Rattle.kex_core.specs.Nets.{over, starts}
 use Rattle.kex_core.specs.Shapes.{Sheet, sheet, plan, IsNet}
 use Rattle.kex_net.specs.Trees.{bottom, after_levels, falling, leading, Stages, through, levels_over, IsTree}
@@ -98,13 +99,10 @@ module _ (n k : ℕ) (two : 2 ≤ n) (some : 1 ≤ k) (room : 2 * min k n < n) (
       at : s.parties ≡ m + n
       at = let p = is.parties in omega arith
 
-  less_or : (i j : ℕ) → (i < j) ⊎ (j ≤ i)
-  less_or i j = grind arith
-
   start_low : (p : ℕ) → p < n + m → slice_index s.starts p ≤ length s.caps
   start_low p l = let g = gated_stages in let f = first_is in ⊎_elim
       (λ (q : p < n). let z = within_get 0 e whole.meets (p / m) (meets_within is.is_tree.levels m 0 e (bottom m n) at_whole) in let y = start_left p q in omega arith)
-      (λ (q : n ≤ p). let z = start_right (p - n) (omega arith) in let y : n + (p - n) ≡ p = omega arith in let x : slice_index s.starts (n + (p - n)) ≡ slice_index s.starts p = ap (λ (v : ℕ). slice_index s.starts v) y in omega arith) (less_or p n)
+      (λ (q : n ≤ p). let z = start_right (p - n) (omega arith) in let y : n + (p - n) ≡ p = omega arith in let x : slice_index s.starts (n + (p - n)) ≡ slice_index s.starts p = ap (λ (v : ℕ). slice_index s.starts v) y in omega arith) (cases_lt p n)
 
   pub gated_valid : IsNet s
   gated_valid = let w = wide in let w0 = w.0 in let w1 = w.1 in let g = gated_stages in let p = is.parties in let q = is.width in let c = sum-cons m [] in

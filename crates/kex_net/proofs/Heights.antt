@@ -2,6 +2,7 @@
 use Rattle.std.proofs.Common.{◌≡◌, ◌≢◌, ◌⊎◌, ℕ, zero, suc, ◌+◌, ◌-◌, ◌*◌, ◌<◌, ◌≤◌, ◌/◌, true, min, List, [], ◌∷◌, ◌++◌, length, get_or, slice_index, sym, refl, ap, ◌∙◌, subst, ⊎_elim, arith}
 use Rattle.std.proofs.lemmas.List.{length-append, get_or_append_left, get_or-append_right, get_or_past, get_or-append-add}
 use Rattle.std.proofs.Math.Nat.{le-div_iff_mul-le, div-mul-le_self}
+use Rattle.std.proofs.lemmas.Bool.{cases_lt}
 use Rattle.kex_core.specs.Nets.{Plan, Valid, on_path}
 use Rattle.kex_core.specs.Shapes.{Sheet, plan}
 use Rattle.kex_core.specs.Laws.{Stage}
@@ -86,9 +87,6 @@ abbrev pub Below : (ℕ → ℕ) → ℕ → List ℕ → Type 0
 Below h top [] = Unit {0}
 Below h top (x ∷ xs) = (h x ≤ top) × Below h top xs
 
-less_or : (i j : ℕ) → (i < j) ⊎ (j ≤ i)
-less_or i j = grind arith
-
 reads_left : (h : ℕ → ℕ) (first : ℕ) (xs ys : List ℕ) → Reads h first (xs ++ ys) → Reads h first xs
 reads_left h first xs ys r i l = let a = length-append xs ys in r i (omega arith) ∙ get_or_append_left xs ys 0 i l
 
@@ -99,7 +97,7 @@ falls_both : (h : ℕ → ℕ) (first second : ℕ) (xs ys : List ℕ) → secon
 falls_both h first second xs ys e f g i l = let a = length-append xs ys in ⊎_elim
     (λ (m : i < length xs). subst (λ (v : ℕ). h v + 1 ≤ h (first + i)) (sym (get_or_append_left xs ys 0 i m)) (f i m))
     (λ (m : length xs ≤ i). let q : second + (i - length xs) ≡ first + i = omega arith in
-    subst (λ (v : ℕ). h v + 1 ≤ h (first + i)) (sym (get_or-append_right xs ys (length xs) i 0 refl m)) (subst (λ (v : ℕ). h (get_or ys (i - length xs) 0) + 1 ≤ h v) q (g (i - length xs) (omega arith)))) (less_or i (length xs))
+    subst (λ (v : ℕ). h v + 1 ≤ h (first + i)) (sym (get_or-append_right xs ys (length xs) i 0 refl m)) (subst (λ (v : ℕ). h (get_or ys (i - length xs) 0) + 1 ≤ h v) q (g (i - length xs) (omega arith)))) (cases_lt i (length xs))
 
 length-leading : (first count up : ℕ) → length (leading first count up) ≡ count
 length-leading first zero up = refl

@@ -1,6 +1,7 @@
 -- Pieces of a net: some stages, the groups that come to them, and the groups that they hand up. Pieces in a row, or beside other groups, are pieces.
 use Rattle.std.proofs.Common.{◌≡◌, ◌≢◌, ◌⊎◌, ℕ, zero, suc, ◌+◌, ◌-◌, ◌<◌, ◌≤◌, ◌^◌, min, List, [], ◌∷◌, ◌++◌, length, get_or, sym, refl, subst, ⊎_elim, arith}
 use Rattle.std.proofs.lemmas.List.{length-append, get_or_append_left, get_or-append_right}
+use Rattle.std.proofs.lemmas.Bool.{cases_lt}
 use Rattle.kex_net.specs.Trees.{falling, leading, stage_met}
 use Rattle.kex_net.proofs.Flows.{inflow, inflow-append, at_it, not_at, link_add, link_le}
 
@@ -16,13 +17,10 @@ pub record IsPiece (exit first : ℕ) (ins from caps nexts outs to : List ℕ) :
   pub cap_low : (i : ℕ) → i < length caps → 1 ≤ get_or caps i 0
   pub cap_high : (i : ℕ) → get_or caps i 0 < 2 ^ 32
 
-less_or : (i j : ℕ) → (i < j) ⊎ (j ≤ i)
-less_or i j = grind arith
-
 -- a member of two lists end to end
 pub joined : (P : ℕ → ℕ → Type 0) (xs ys : List ℕ) (n : ℕ) → length xs ≡ n → ((i : ℕ) → i < n → P i (get_or xs i 0)) → ((i : ℕ) → n ≤ i → P i (get_or ys (i - n) 0)) → (i : ℕ) → P i (get_or (xs ++ ys) i 0)
 joined P xs ys n e h k i = ⊎_elim (λ (l : i < n). subst (P i) (sym (get_or_append_left xs ys 0 i (omega arith))) (h i l))
-    (λ (l : n ≤ i). subst (P i) (sym (get_or-append_right xs ys n i 0 e l)) (k i l)) (less_or i n)
+    (λ (l : n ≤ i). subst (P i) (sym (get_or-append_right xs ys n i 0 e l)) (k i l)) (cases_lt i n)
 
 module _ (exit first : ℕ) (ins from caps nexts mids mid caps' nexts' outs to : List ℕ) (second : ℕ) (at : second ≡ first + length caps)
     (p : IsPiece exit first ins from caps nexts mids mid) (q : IsPiece exit second mids mid caps' nexts' outs to) where
@@ -43,7 +41,7 @@ module _ (exit first : ℕ) (ins from caps nexts mids mid caps' nexts' outs to :
     same = omega arith;
     below = p.below;
     before = λ j l. let f = flow j in let x = p.before j l in let y = q.before j (omega arith) in omega arith;
-    room = λ i l. ⊎_elim (λ (m : i < length caps). room_in i m) (λ (m : length caps ≤ i). room_behind i m (omega arith)) (less_or i (length caps));
+    room = λ i l. ⊎_elim (λ (m : i < length caps). room_in i m) (λ (m : length caps ≤ i). room_behind i m (omega arith)) (cases_lt i (length caps));
     behind = λ j l. let f = flow j in let x = p.behind j (omega arith) in let y = q.behind j (omega arith) in omega arith;
     next_low = λ i l. joined (λ (i v : ℕ). i < length caps + length caps' → first + i < v) nexts nexts' (length caps) s (λ i m _. p.next_low i m)
         (λ i m n. let x = q.next_low (i - length caps) (omega arith) in omega arith) i (omega arith);

@@ -117,11 +117,6 @@ above_fewer m (a ∷ b ∷ sizes) l = let h = above_most m sizes in omega arith
     above_most m (a ∷ []) = omega arith
     above_most m (a ∷ b ∷ sizes) = let h = above_most m sizes in omega arith
 
-pub above_some : (m : ℕ) (sizes : List ℕ) → 1 ≤ length sizes → 1 ≤ length (above m sizes)
-above_some m [] l = absurd (omega arith)
-above_some m (a ∷ []) l = omega arith
-above_some m (a ∷ b ∷ sizes) l = omega arith
-
 above_head : (m : ℕ) (sizes : List ℕ) → get_or sizes 0 0 ≡ m → get_or (above m sizes) 0 0 ≡ m
 above_head m [] e = e
 above_head m (a ∷ []) e = e

@@ -1,5 +1,6 @@
 -- What is due for a pass that enters.
 use Rattle.std.proofs.Common.{◌≡◌, ◌≢◌, ◌↔◌, ℕ, ◌+◌, ◌*◌, ◌≤◌, Bool, true, false, cond, eqb, get_or, refl, sym, ap, ◌∙◌}
+use Rattle.std.proofs.lemmas.Bool.{eqb-true}
 use Rattle.kex_core.specs.declared.place.Place.{Place}
 use Rattle.kex_core.specs.declared.place.Place.TheVariants.{Out, Dec, Mark, Look, Spin, Naming, Named, Holding, Clearing, Inc, Unmark}
 use Rattle.kex_core.specs.Nets.{Plan}
@@ -7,7 +8,7 @@ use Rattle.kex_core.specs.Worlds.{due, place_past, value_found, after}
 use Rattle.kex_core.specs.Sets.{is_between, others}
 use Rattle.kex_core.specs.Shapes.{plan}
 use Rattle.kex_core.proofs.Exports.{due_placed}
-use Rattle.kex_core.proofs.Sums.{chosen, eq_from, ne_from}
+use Rattle.kex_core.proofs.Sums.{chosen, ne_from}
 use Rattle.kex_words.specs.Passes.{Pass, due_at, kind_of, entering, naming, EntersAt}
 use Rattle.kex_words.specs.Moves.{Moved}
 use Rattle.kex_words.proofs.Rules.{itself}
@@ -51,7 +52,7 @@ module _ (p q : Pass) (j : ℕ) (m : Moved p q) (e : due_at p ≡ Spin j) where
   spins_by =
       let at : q.place ≡ cond (eqb (m.ruled.world.q j) (p.number + 1)) (Spin j) (place_past net j) = ap (λ (x : Pass). x.place) m.now ∙ ap (λ (d : Place). after net p.number d (value_found m.ruled.world p.number d)) e in (
         (λ (stays : q.place ≡ Spin j). chosen (λ (x : Place). x ≡ Spin j → m.ruled.world.q j ≡ p.number + 1) (eqb (m.ruled.world.q j) (p.number + 1)) (Spin j) (place_past net j)
-            (λ own _. eq_from (m.ruled.world.q j) (p.number + 1) own) (λ _ on. absurd (passed_on net j j on)) (sym at ∙ stays)),
+            (λ own _. eqb-true (m.ruled.world.q j) (p.number + 1) own) (λ _ on. absurd (passed_on net j j on)) (sym at ∙ stays)),
         (λ (own : m.ruled.world.q j ≡ p.number + 1). at ∙ chosen (λ (x : Place). x ≡ Spin j) (eqb (m.ruled.world.q j) (p.number + 1)) (Spin j) (place_past net j)
             (λ _. refl) (λ other. absurd (ne_from (m.ruled.world.q j) (p.number + 1) other own))),
       )

@@ -38,17 +38,9 @@ begun id p m rest = record {
   rests = ap (λ (z : Self). z.0.place) rest.sits ∙ rest.rests;
 }
 
-pub begun_as : (id : TableId) (p : Pass) (m : Self) → id ≡ p.table.id → IsAtRest p m → taken_in id m.0 ≡ record { table = p.table; numbers = p.number ∷ []; got = p.got }
-begun_as id p m own rest = λ i. taken_in (own i) (rest.sits i).0
-
 -- and of one with one more
 pub joined_on : (m m' w : Self) (p : Pass) → IsTakenIn m → IsAtRest p w → m' ≡ (both m.0 w.0, m.1) → IsTakenIn m'
 joined_on m m' w p t rest e = subst IsTakenIn (sym e) (record { alone = t.alone; role_is = t.role_is; rests = t.rests })
-
-pub joined_as : (id id' : TableId) (m m' w : Self) (g : TakenIn) (p : Pass) → taken_in id m.0 ≡ g → id' ≡ id → IsAtRest p w → m' ≡ (both m.0 w.0, m.1)
-    → taken_in id' m'.0 ≡ record { table = g.table; numbers = p.number ∷ g.numbers; got = g.got ++ p.got }
-joined_as id id' m m' w g p g_is same rest e =
-    (λ i. taken_in (same i) (e i).0) ∙ ((λ i. taken_in id (both m.0 (rest.sits i).0)) ∙ (λ i. record { table = (g_is i).table; numbers = p.number ∷ (g_is i).numbers; got = (g_is i).got ++ p.got }))
 
 pub times_after : (s : ℕ) (l m : List ℕ) → times s (l ++ m) ≡ times s m + times s l
 times_after s l m = let a = times_append s l m in omega arith

@@ -1,5 +1,6 @@
 -- The words of a new table, and that its rule holds of them.
 use Rattle.std.proofs.Common.{◌≡◌, ◌≢◌, ℕ, zero, suc, ◌+◌, ◌*◌, ◌<◌, ◌≤◌, ltb, List, [], ◌∷◌, length, get_or, set, slice_get, sym, refl, ap, ◌∙◌, subst, inl, arith, length-set, get_or-set_other, get_or-set_same, EachIndex, Option, Some, ⊎_elim}
+use Rattle.std.proofs.lemmas.Bool.{lt-ltb}
 use mathlib.Core.Option.{some, some-ne-none}
 use lib.ListN.{get_elem?}
 use Rattle.atomic_table.specs.Table.{opening}
@@ -7,7 +8,6 @@ use Rattle.atomic_table.proofs.Lists.{at_map}
 use Rattle.kex_core.specs.Worlds as worlds
 use Rattle.kex_core.specs.Shapes.{Sheet, plan, IsNet}
 use Rattle.kex_core.proofs.Sums.{same_or, yes_is}
-use Rattle.kex_core.proofs.Paths.{lt_is}
 use Rattle.kex_core.proofs.Runs.{kept_opening}
 use Rattle.kex_words.specs.declared.card.Card.{Card}
 use Rattle.kex_words.specs.declared.view.View.{View}
@@ -49,7 +49,7 @@ starts net told ws slots is is_net opened count cards = subst (λ (x : Sheet). I
   is_net = is_net;
   kept = kept_opening (plan net);
   wide = opened.wide;
-  x_is = λ j l. opened.counters j l ∙ sym (yes_is (ltb j (length net.caps)) (get_or net.caps j 0 + 1) 0 (lt_is j (length net.caps) l));
+  x_is = λ j l. opened.counters j l ∙ sym (yes_is (ltb j (length net.caps)) (get_or net.caps j 0 + 1) 0 (lt-ltb j (length net.caps) l));
   q_is = λ j l. opened.others (2 * j + 2) (λ i m e. omega arith);
   bit_is = λ i l. opened.others (2 * length net.caps + 1 + i) (λ j m e. omega arith);
   card_is = λ k l. opened.others (2 * length net.caps + net.width + k) (λ j m e. omega arith);

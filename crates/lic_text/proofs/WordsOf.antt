@@ -1,5 +1,6 @@
 use Rattle.std.proofs.Common.{◌≡◌, ◌==◌, ℕ, zero, suc, ◌+◌, ◌-◌, if◌then◌else◌, Bool, true, false, not, List, [], ◌∷◌, ◌++◌, length, take, filter, map, Option, None, Some, Result, Ok, Err, refl}
 use Rattle.std.specs.List.{slice_split, onto_first, AllByRecursion}
+use Rattle.std.proofs.lemmas.Bool.{not-true}
 use Rattle.lic_text.specs.Physical.{is_blank, is_empty, without_last, ends_in, without_return, without_empty_end, physical_lines, is_comment, is_continued}
 use Rattle.lic_text.specs.Lines.{Logical, new_line, with_text, with_line, ended_lines, still_open, logical_lines, words_of, fault_of, unless_fault, line_or_fault, tells, up_to_fault, lines_from, lines_of, Worded, IsWordByte, IsWord, HasWords}
 use Rattle.lic_text.specs.declared.fault.TextFault.{TextFault}
@@ -99,14 +100,10 @@ no_feed_lines (text ∷ texts) open_line number all h =
     all-append NoFeedIn (ended_lines (with_line open_line number text)) (logical_lines texts (still_open (with_line open_line number text)) (number + 1))
     (no_feed_ended (with_line open_line number text) more) (no_feed_lines texts (still_open (with_line open_line number text)) (number + 1) all.1 (no_feed_open (with_line open_line number text) more))
 
-not_true : (b : Bool) → not b ≡ true → b ≡ false
-not_true true h = cc
-not_true false h = refl
-
 -- the words of a text without LF
 are_words : (text : List ℕ) → NoFeed text → AllByRecursion IsWord (words_of text)
 are_words text h =
-    all-filter (AllByRecursion IsWordByte) IsWord (λ word. not (is_empty word)) (slice_split is_blank text) (λ word all some. (not_true (is_empty word) some, all))
+    all-filter (AllByRecursion IsWordByte) IsWord (λ word. not (is_empty word)) (slice_split is_blank text) (λ word all some. (not-true (is_empty word) some, all))
     (parts_are (λ b. (b == 10) ≡ false) IsWordByte is_blank text (λ x q g. (g, q)) h)
 
 abbrev AreWords : Result Worded TextFault → Type 0
@@ -118,7 +115,7 @@ are_words_unless None line h = h
 are_words_unless (Some fault) line h = tt
 
 has_words_told : (line : Result Worded TextFault) → AreWords line → tells line ≡ true → HasWords line
-has_words_told (Ok line) h some = (not_true (is_empty line.1) some, h)
+has_words_told (Ok line) h some = (not-true (is_empty line.1) some, h)
 has_words_told (Err fault) h some = tt
 
 all-up_to_fault : (lines : List (Result Worded TextFault)) → AllByRecursion HasWords lines → AllByRecursion HasWords (up_to_fault lines)

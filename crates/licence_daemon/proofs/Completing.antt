@@ -1,5 +1,6 @@
-use Rattle.std.proofs.Common.{◌≡◌, ◌⊎◌, ℕ, inl, inr, Bool, true, false, ◌&&◌, List, [], ◌∷◌, None, Some, is_some, Result, Ok, Err, refl, sym, ap, ◌∙◌}
+use Rattle.std.proofs.Common.{◌≡◌, ◌⊎◌, ℕ, inl, inr, true, ◌&&◌, List, [], ◌∷◌, None, Some, is_some, Result, Ok, Err, refl, sym, ap, ◌∙◌}
 use Rattle.std.specs.List.{list_all}
+use Rattle.std.proofs.lemmas.Bool.{and_parts}
 use Rattle.door_worker.specs.Visits.{Visit}
 use Rattle.licence_tool.proofs.Checks.{wider, wider_all}
 use Rattle.licence_tool.specs.Files.{AreReadings, Bytes, IsReading}
@@ -36,16 +37,12 @@ same_reading None reading is reads = cc
 same_reading (Some held) None is reads = absurd reads
 same_reading (Some held) (Some bytes) is reads = ap Some reads
 
-both : (a b : Bool) → (a && b) ≡ true → (a ≡ true) × (b ≡ true)
-both true b e = (refl, e)
-both false b e = cc
-
 same_readings : (told readings : List Bytes) → list_all is_some told ≡ true → AreReadings ⊥ told readings → readings ≡ told
 same_readings [] [] are reads = refl
 same_readings [] (reading ∷ readings) are reads = absurd reads
 same_readings (told ∷ others) [] are reads = absurd reads
 same_readings (told ∷ others) (reading ∷ readings) are reads =
-    let parts = both (is_some told) (list_all is_some others) are in
+    let parts = and_parts (is_some told) (list_all is_some others) are in
     let first = same_reading told reading parts.0 reads.0 in
     let behind = same_readings others readings parts.1 reads.1 in
     cc
@@ -53,8 +50,8 @@ same_readings (told ∷ others) (reading ∷ readings) are reads =
 -- where all is told, just that decides
 told_decides : (told : ServeFiles Bytes) → are_all_told told ≡ true → IsSure told (terms_heard told)
 told_decides told are readings reads =
-    let p = both (is_some told.licence) (is_some told.options && list_all is_some told.more) are in
-    let q = both (is_some told.options) (list_all is_some told.more) p.1 in
+    let p = and_parts (is_some told.licence) (is_some told.options && list_all is_some told.more) are in
+    let q = and_parts (is_some told.options) (list_all is_some told.more) p.1 in
     let e = same_reading told.licence readings.licence p.0 reads.licence in
     let f = same_reading told.options readings.options q.0 reads.options in
     let h = same_readings told.more readings.more q.1 reads.more in

@@ -1,4 +1,4 @@
-use Rattle.std.proofs.Common.{◌≡◌, ℕ, ◌<◌, ◌≤◌, ◌^◌, inl, inr, List, length, Vec, sym, subst, arith}
+use Rattle.std.proofs.Common.{◌≡◌, ℕ, ◌<◌, inl, inr, List, Vec, sym, subst}
 use Rattle.daemon_run.specs.Ends.{HasCause, WhereServed, WhereUnserved}
 use Rattle.daemon_run.specs.Gives.{no_sessions}
 use Rattle.daemon_run.specs.Join.{Ran}
@@ -50,10 +50,3 @@ module _ {Z : Type 0} (terms : TermsRead) (parties : ℕ) (office : View DeskVie
         | inr k ↦ subst (λ (s : DaemonStatus). ServedSays parties kept AtPath old new out_old out_new OutFailed terms s) (sym k.0)
             (has_run end some o ran path (λ text. TakesPrefix out_old out_new text) k.2, k.1)
       ]
-
--- the logs and the tallies are few enough to be numbered
-pub few_ends : {Z : Type 0} (office : View DeskView) (passes : List (Vec Sitter Z)) (kept : List (List Visit) → Type 0) (rings0 rings1 : ℕ) (ended : Ended) → length office.desks ≤ 64
-    → WhereServed ended (λ end. Ran office passes kept rings0 rings1 end) → WhereServed ended (λ end. (length end.logs.items ≤ 2 ^ 32) × (length end.tallies.items ≤ 2 ^ 32))
-few_ends office passes kept rings0 rings1 Unserved few r = tt
-few_ends office passes kept rings0 rings1 (Served end) few r = (omega (arith, end.logs.ok.0, r.logs_are), omega (arith, end.tallies.ok.0, r.tallies_are))
-few_ends office passes kept rings0 rings1 (Broken end) few r = (omega (arith, end.logs.ok.0, r.logs_are), omega (arith, end.tallies.ok.0, r.tallies_are))

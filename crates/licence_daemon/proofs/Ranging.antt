@@ -1,5 +1,6 @@
-use Rattle.std.proofs.Common.{◌≡◌, ℕ, suc, ◌<◌, List, [], ◌∷◌, length, map, get_or, Vec, refl, sym, ap, ◌∙◌, subst, arith, vec_len}
+use Rattle.std.proofs.Common.{◌≡◌, ℕ, ◌<◌, List, [], ◌∷◌, length, map, get_or, Vec, refl, sym, ap, ◌∙◌, subst, arith, vec_len}
 use Rattle.std.specs.List.{AllByRecursion, flat_map}
+use Rattle.std.proofs.lemmas.List.{length-map}
 use Rattle.counter.specs.Account.{Asking}
 use Rattle.daemon_run.specs.Join.{HasSets, Ran}
 use Rattle.daemon_run.specs.Join as run
@@ -22,10 +23,7 @@ use Rattle.session.specs.Session.{setup_of}
 use Rattle.session.specs.Table.{Setup}
 use Rattle.licence_daemon.specs.Daemon.{AreHistories, IsHistory, setup_for}
 use Rattle.licence_daemon.specs.Terms.{TermsRead}
-
-pub the_first : {X : Type 0} (xs : List X) → 0 < length xs → X
-the_first [] some = absurd (omega arith)
-the_first (x ∷ xs) some = x
+use Rattle.stat_board.specs.Fronts.{the_first}
 
 -- an office that was made for these terms and so many parties
 pub record IsOpened {Z : Type 0} (terms : TermsRead) (parties : ℕ) (office : View DeskView) (passes : List (Vec Sitter Z)) : Type 0 where
@@ -50,16 +48,12 @@ opened terms parties office passes sets e pools many desks paired count dealt = 
   dealt = dealt;
 }
 
-same_length : {X Y : Type 0} (f : X → Y) (xs : List X) → length (map f xs) ≡ length xs
-same_length f [] = refl
-same_length f (x ∷ xs) = ap suc (same_length f xs)
-
 -- each of its desks has as many rule sets as it says
 pub has_sets : {Z : Type 0} (terms : TermsRead) (parties : ℕ) (office : View DeskView) (passes : List (Vec Sitter Z)) → IsOpened terms parties office passes → HasSets office
 has_sets terms parties office passes o = λ j d lt.
     let within : j < length terms.licence.pools = subst (λ (l : List Pool). j < length l) o.pools_are lt in
     let pool : Pool = the_first terms.licence.pools (omega arith) in
-    ap length (o.desks_are j pool d within).rules ∙ (same_length (rules_of (get_or terms.licence.pools j pool)) terms.sets ∙ sym o.sets_are)
+    ap length (o.desks_are j pool d within).rules ∙ (length-map terms.sets (rules_of (get_or terms.licence.pools j pool)) ∙ sym o.sets_are)
 
 -- the number of a party at each of its desks
 own_numbers : (p : ℕ) (desks : List DeskView) (pools : List Pool) → length desks ≡ length pools

@@ -1,14 +1,11 @@
 use Rattle.std.specs.Prelude.{◌&&◌, codes, nat_eq, nat_le, not}
-use Rattle.std.proofs.Common.{◌≡◌, ℕ, suc, Bool, true, false, List, [], ◌∷◌, length, map, refl, sym, ap, ◌∙◌}
+use Rattle.std.proofs.Common.{◌≡◌, ℕ, Bool, true, false, List, length, map, refl, sym, ap, ◌∙◌}
 use Rattle.std.specs.Cmp.Lexicographic.{pointwise}
 use Rattle.std.specs.List.{list_all}
 use Rattle.std.proofs.lemmas.List.Folds.{list_all-map}
+use Rattle.std.proofs.lemmas.List.{length-map}
 use Rattle.licence_tool.specs.Command.{is_plain_word}
 use Rattle.licence_daemon.specs.Serve.{are_serve}
-
-same_length : {X Y : Type 0} (f : X → Y) (xs : List X) → length (map f xs) ≡ length xs
-same_length f [] = refl
-same_length f (x ∷ xs) = ap suc (same_length f xs)
 
 -- the test of the words, where the further ones are the images of others
 pub serve_test : {X : Type 0} (f : X → List ℕ) (verb licence options socket : List ℕ) (more : List X)
@@ -16,7 +13,7 @@ pub serve_test : {X : Type 0} (f : X → List ℕ) (verb licence options socket 
     ≡ (pointwise nat_eq verb (codes "serve") && ((is_plain_word licence && is_plain_word options && is_plain_word socket) && (list_all (λ (x : X). is_plain_word (f x)) more && nat_le (length more) 3)))
 serve_test {X} f verb licence options socket more =
     ap (λ (b : Bool). pointwise nat_eq verb (codes "serve") && ((is_plain_word licence && is_plain_word options && is_plain_word socket) && (b && nat_le (length (map f more)) 3))) (list_all-map is_plain_word f more)
-    ∙ ap (λ (n : ℕ). pointwise nat_eq verb (codes "serve") && ((is_plain_word licence && is_plain_word options && is_plain_word socket) && (list_all (λ (x : X). is_plain_word (f x)) more && nat_le n 3))) (same_length f more)
+    ∙ ap (λ (n : ℕ). pointwise nat_eq verb (codes "serve") && ((is_plain_word licence && is_plain_word options && is_plain_word socket) && (list_all (λ (x : X). is_plain_word (f x)) more && nat_le n 3))) (length-map more f)
 
 and_false : (a b c : Bool) → false ≡ (a && (b && (false && c)))
 and_false true true c = refl

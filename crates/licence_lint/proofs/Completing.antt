@@ -1,4 +1,4 @@
-use Rattle.std.proofs.Common.{◌≡◌, ◌⊎◌, inl, inr, Bool, true, false, ◌&&◌, List, [], ◌∷◌, Option, None, Some, is_some, Result, Ok, Err, refl, sym, ap, ◌∙◌}
+use Rattle.std.proofs.Common.{◌≡◌, ◌⊎◌, inl, inr, true, ◌&&◌, List, [], ◌∷◌, Option, None, Some, is_some, Result, Ok, Err, refl, sym, ap, ◌∙◌}
 use Rattle.licence_tool.specs.Command.{CheckFiles}
 use Rattle.licence_tool.specs.Files.{AreOfCheck, Bytes, IsReading}
 use Rattle.licence_tool.specs.declared.status.Status.{Status}
@@ -11,6 +11,7 @@ use Rattle.licence_lint.specs.Words.{LintWords}
 use Rattle.licence_lint.specs.declared.status.LintStatus.{LintStatus}
 use Rattle.licence_lint.specs.declared.status.LintStatus.TheVariants.{Tool, Advised}
 use Rattle.std.specs.Prelude.{ℕ}
+use Rattle.std.proofs.lemmas.Bool.{and_parts}
 
 abbrev Heard : Type 0
 Heard = Result (List Advice) Status
@@ -28,15 +29,11 @@ same_reading None reading is reads = cc
 same_reading (Some held) None is reads = absurd reads
 same_reading (Some held) (Some bytes) is reads = ap Some reads
 
-both : (a b : Bool) → (a && b) ≡ true → (a ≡ true) × (b ≡ true)
-both true b e = (refl, e)
-both false b e = cc
-
 -- where all is told, just that decides
 told_decides : (horizon : Option Horizon) (told : CheckFiles Bytes) → (is_some told.licence && is_some told.options) ≡ true → IsSure horizon told (advice_heard horizon told)
 unfolding advice_heard
 told_decides horizon told are readings reads =
-    let p = both (is_some told.licence) (is_some told.options) are in
+    let p = and_parts (is_some told.licence) (is_some told.options) are in
     let e = same_reading told.licence readings.licence p.0 reads.licence in
     let f = same_reading told.options readings.options p.1 reads.options in
     rw (e, f) refl

@@ -1,4 +1,3 @@
-pub mod Asking
 pub mod Completing
 pub mod Hearing
 pub mod Linting

@@ -5,10 +5,8 @@ use Rattle.licence_tool.specs.Tool.{RefusalSays}
 use Rattle.licence_tool.proofs.Hearing.{agreeing, is_agreeing}
 use Rattle.licence_tool.specs.declared.status.Status.{Status}
 use Rattle.licence_tool.specs.declared.status.Status.TheVariants as tool
-use Rattle.licence_tool.specs.declared.words.Words.{Words}
 use Rattle.lint_advice.specs.declared.advice.Advice.{Advice}
-use Rattle.licence_lint.specs.Asked.{AsksHelp}
-use Rattle.licence_lint.specs.Lint.{AdviceSays, ForLint, IsLinted, IsUnlinted, LintSays, ShowSays}
+use Rattle.licence_lint.specs.Lint.{AdviceSays, ForLint, IsLinted, LintSays}
 use Rattle.licence_lint.specs.Status.{reading_in}
 use Rattle.licence_lint.specs.Words.{LintWords}
 use Rattle.licence_lint.specs.declared.status.LintStatus.{LintStatus}
@@ -59,21 +57,6 @@ asked_all OutFailed old new advice (Tool (tool.Script fault)) first names a b f 
 asked_all OutFailed old new advice (Tool (tool.ReadFault file)) first names a b f h says asks = absurd says
 asked_all OutFailed old new advice (Tool (tool.FileTooLong file)) first names a b f h says asks = absurd says
 asked_all OutFailed old new advice (Tool (tool.AuditNo line)) first names a b f h says asks = absurd says
-
--- the writing of a text that was asked for is how words end that are no lint
-pub shown_ends : (Failed : Type 0) (w : Words) (old new : Bytes) (text : List ℕ) (status : LintStatus) → AsksHelp w → ShowSays Failed old new text status → IsUnlinted Failed w old new status
-shown_ends Failed w old new text (Tool tool.Done) asks says = (asks, (text, says))
-shown_ends Failed w old new text (Tool tool.WriteFault) asks says = (asks, (text, says))
-shown_ends Failed w old new text Advised asks says = absurd says
-shown_ends Failed w old new text (Tool tool.NoMemory) asks says = absurd says
-shown_ends Failed w old new text (Tool tool.Usage) asks says = absurd says
-shown_ends Failed w old new text (Tool (tool.Licence fault)) asks says = absurd says
-shown_ends Failed w old new text (Tool (tool.Options fault)) asks says = absurd says
-shown_ends Failed w old new text (Tool (tool.MoreOptions set fault)) asks says = absurd says
-shown_ends Failed w old new text (Tool (tool.Script fault)) asks says = absurd says
-shown_ends Failed w old new text (Tool (tool.ReadFault file)) asks says = absurd says
-shown_ends Failed w old new text (Tool (tool.FileTooLong file)) asks says = absurd says
-shown_ends Failed w old new text (Tool (tool.AuditNo line)) asks says = absurd says
 
 -- where memory was wanted for the words, nothing was written
 pub forgotten : (lint : Option LintWords) (contents : List ℕ → Bytes) (Failed OutFailed : Type 0) (held : Bytes) → ForLint lint contents (λ horizon told. IsLinted horizon Failed OutFailed told held held (Tool tool.NoMemory))

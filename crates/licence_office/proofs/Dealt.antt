@@ -10,7 +10,7 @@ use Rattle.feature_lines.specs.declared.pool.Pool.{Pool}
 use Rattle.options_text.specs.Options.{OptionsFile}
 use Rattle.licence_office.proofs.Ends.{ends_more}
 use Rattle.licence_office.specs.declared.logs.DeskEnd.{DeskEnd}
-use Rattle.licence_office.specs.Dealing.{IsHanded, IsRoomFor}
+use Rattle.licence_office.specs.Dealing.{IsHanded}
 use Rattle.licence_office.specs.Offices.{AreAt, AreDealt, IsDeskFor}
 use Rattle.licence_office.specs.Rooms.{AreEnds, IsEndOf}
 
@@ -31,19 +31,6 @@ newcomers_at desks k = record {
 }
 
 module _ {Z : Type 0} where
-  pub none_opened : (sets : List OptionsFile) (pools : List Pool) (desks : List DeskView) (ends : List DeskEnd) (parties : List (Vec Sitter Z)) → desks ≡ [] → ends ≡ [] → All (IsRoomFor (length pools)) parties
-      → AreOpened sets (length parties) pools 0 desks ends parties
-  none_opened sets pools [] [] parties none nobody empty = record {
-    many = refl;
-    count = refl;
-    desks_for = λ j p d lt. absurd (omega (arith, lt));
-    dealt = λ k v lt. (empty k v lt).empty;
-    ends_are = record { many = refl; each = λ j d e lt. absurd (omega (arith, lt)) };
-    rooms = λ k v lt. (empty k v lt).room;
-  }
-  none_opened sets pools (d ∷ ds) ends parties none nobody empty = absurd (cc)
-  none_opened sets pools [] (e ∷ es) parties none nobody empty = absurd (cc)
-
   module _ (sets : List OptionsFile) (n : ℕ) (pools : List Pool) (i : ℕ) (desks : List DeskView) (ends : List DeskEnd) (old : List (Vec Sitter Z)) (opened : AreOpened sets n pools i desks ends old) where
     pub has_room : i < length pools → All (λ (p : Vec Sitter Z). vec_len p < vec_capacity p) old
     has_room lt k v within =

@@ -1,5 +1,5 @@
 -- The logs of an office's desks: whose they are, and rounds of taking.
-use Rattle.std.proofs.Common.{◌≡◌, ◌≢◌, ℕ, ◌+◌, ◌<◌, ◌≤◌, List, [], ◌++◌, map, length, get_or, set, All, refl, sym, ap, ◌∙◌, subst, arith, append_assoc, append-nil, sum_by, vec_capacity, Vec, Global}
+use Rattle.std.proofs.Common.{◌≡◌, ◌≢◌, ℕ, ◌+◌, ◌<◌, ◌≤◌, List, [], ◌++◌, map, length, get_or, set, All, sym, ap, ◌∙◌, subst, arith, append_assoc, sum_by, vec_capacity, Vec, Global}
 use mathlib.Core.Logic.{dite}
 use native.Mathlib.Decide.{dec_le}
 use Rattle.std.proofs.lemmas.List.{get_or-map, get_or-set_other, get_or-set_same, length-map, length-set, map-set}
@@ -88,10 +88,6 @@ same_places n old new same places j e lt =
       empty = subst (λ (z : Vec Sitter Global). z.items ≡ []) is place.empty;
       room = subst (λ (z : Vec Sitter Global). n ≤ vec_capacity z) is place.room;
     }
-
--- nothing more was taken
-pub grown_none : (xs : List (List Entry)) → HaveGrown xs xs
-grown_none xs = record { many = refl; each = λ j lt. ([], sym (append-nil (get_or xs j []))) }
 
 -- more was taken at desk i
 grown_more : (base xs : List (List Entry)) (i : ℕ) (x : List Entry) → HaveGrown base xs → i < length xs → Extends (get_or xs i []) x → HaveGrown base (set xs i x)

@@ -3,7 +3,7 @@ use Rattle.std.proofs.lemmas.Bool.{ne_eqb}
 use Rattle.std.proofs.lemmas.List.{get_or-append-add, get_or_append_left, length-append, length-take-le, take-append-le, take_all}
 use Rattle.std.proofs.lemmas.Option.{get_or_from_slice_get, slice_get_read, slice_get_within}
 use Rattle.std.proofs.Math.Seq.{take-append-add}
-use Rattle.licence_tool.specs.Asked.{Asks, EndsAt, FailedAt, FailsAt, IsOf}
+use Rattle.licence_tool.specs.Asked.{Asks, EndsAt, FailedAt, FailsAt}
 use Rattle.licence_tool.specs.Files.{Bytes}
 use Rattle.licence_tool.specs.Outcome.{Due, Text, position_of_set}
 use Rattle.licence_tool.specs.Tool.{DueSays, RefusalSays, WritingSays}
@@ -21,51 +21,6 @@ none_asked first names a f s ends fails = record { count = 0; within = omega ari
 pub idle : (first : ℕ) (a f : Names) (s : Status) → (s ≡ Usage) ⊎ (s ≡ NoMemory) → Asks first [] a a f f s
 idle first a f s (inl e) = subst (Asks first [] a a f f) (sym e) (none_asked first [] a f Usage tt refl)
 idle first a f s (inr e) = subst (Asks first [] a a f f) (sym e) (none_asked first [] a f NoMemory tt refl)
-
--- one file was asked for
-pub one_asked : (first : ℕ) (name : List ℕ) (a0 a1 f0 f1 : Names) (s : Status) → a1 ≡ a0 ++ name ∷ [] → EndsAt first 1 1 s → FailsAt first (name ∷ []) f0 f1 s → Asks first (name ∷ []) a0 a1 f0 f1 s
-one_asked first name a0 a1 f0 f1 s asked ends fails = record { count = 1; within = omega arith; asked = asked; ends = ends; fails = fails }
-
--- memory was wanted before it was asked for, or behind that
-pub one_unread : (first : ℕ) (name : List ℕ) (a0 a1 f0 f1 : Names) → (a1 ≡ a0) ⊎ (a1 ≡ a0 ++ name ∷ []) → f1 ≡ f0 → Asks first (name ∷ []) a0 a1 f0 f1 NoMemory
-one_unread first name a0 a1 f0 f1 (inl same) steady = record { count = 0; within = omega arith; asked = same ∙ sym (append-nil a0); ends = tt; fails = steady }
-one_unread first name a0 a1 f0 f1 (inr asked) steady = one_asked first name a0 a1 f0 f1 NoMemory asked tt steady
-
--- its reading failed
-pub one_failed : (first : ℕ) (name : List ℕ) (a0 a1 f0 f1 : Names) → a1 ≡ a0 ++ name ∷ [] → f1 ≡ f0 ++ name ∷ [] → Asks first (name ∷ []) a0 a1 f0 f1 (ReadFault first)
-one_failed first name a0 a1 f0 f1 asked failed = one_asked first name a0 a1 f0 f1 (ReadFault first) asked refl
-    (record { place = 0; name = name; position = omega arith; is = refl; failed = failed })
-
-judged_ends : (first : ℕ) (s : Status) → IsOf first s → EndsAt first 1 1 s
-judged_ends first NoMemory of = tt
-judged_ends first (Licence fault) of = omega arith
-judged_ends first (Options fault) of = omega arith
-judged_ends first (Script fault) of = omega arith
-judged_ends first (MoreOptions set fault) of = omega arith
-judged_ends first Done of = absurd of
-judged_ends first Usage of = absurd of
-judged_ends first WriteFault of = absurd of
-judged_ends first (AuditNo line) of = absurd of
-judged_ends first (ReadFault file) of = absurd of
-judged_ends first (FileTooLong file) of = absurd of
-
-judged_fails : (first : ℕ) (names f0 f1 : Names) (s : Status) → f1 ≡ f0 → IsOf first s → FailsAt first names f0 f1 s
-judged_fails first names f0 f1 NoMemory steady of = steady
-judged_fails first names f0 f1 (Licence fault) steady of = steady
-judged_fails first names f0 f1 (Options fault) steady of = steady
-judged_fails first names f0 f1 (Script fault) steady of = steady
-judged_fails first names f0 f1 (MoreOptions set fault) steady of = steady
-judged_fails first names f0 f1 Done steady of = absurd of
-judged_fails first names f0 f1 Usage steady of = absurd of
-judged_fails first names f0 f1 WriteFault steady of = absurd of
-judged_fails first names f0 f1 (AuditNo line) steady of = absurd of
-judged_fails first names f0 f1 (ReadFault file) steady of = absurd of
-judged_fails first names f0 f1 (FileTooLong file) steady of = absurd of
-
--- it was read, and what it holds is refused
-pub judged_asked : (first : ℕ) (name : List ℕ) (a0 a1 f0 f1 : Names) (s : Status) → Asks first (name ∷ []) a0 a1 f0 f1 Done → IsOf first s → Asks first (name ∷ []) a0 a1 f0 f1 s
-judged_asked first name a0 a1 f0 f1 s h of =
-    one_asked first name a0 a1 f0 f1 s (h.asked ∙ ap (λ (n : ℕ). a0 ++ take n (name ∷ [])) h.ends) (judged_ends first s of) (judged_fails first (name ∷ []) f0 f1 s h.fails of)
 
 slice_behind : (xs ys : Names) (i : ℕ) (x : List ℕ) → slice_get ys i ≡ Some x → slice_get (xs ++ ys) (length xs + i) ≡ Some x
 slice_behind xs ys i x h =

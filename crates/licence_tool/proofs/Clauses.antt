@@ -1,6 +1,7 @@
-use Rattle.std.proofs.Common.{◌≡◌, ◌≢◌, ℕ, ◌⊎◌, Bool, true, false, ◌&&◌, List, [], ◌∷◌, map, Option, None, Some, is_some, Result, Ok, Err, refl, sym, ap, ◌∙◌, subst, inl, inr}
+use Rattle.std.proofs.Common.{◌≡◌, ◌≢◌, ℕ, ◌⊎◌, true, ◌&&◌, List, [], ◌∷◌, map, Option, None, Some, is_some, Result, Ok, Err, refl, sym, ap, ◌∙◌, subst, inl, inr}
 use Rattle.std.specs.List.{list_all}
 use Rattle.std.proofs.lemmas.Simd.{map-map}
+use Rattle.std.proofs.lemmas.Bool.{and_parts}
 use Rattle.licence_tool.specs.Asked.{Asks, FailedAt, FailsAt, files_of}
 use Rattle.licence_tool.specs.Command.{Audit, CommandOf, Check, Replay, RunFiles, Trial}
 use Rattle.licence_tool.specs.Files.{AreOfCommand, AreOfRun, AreReadings, Bytes, IsReading, are_told, is_run_told, told_by}
@@ -36,10 +37,6 @@ pub for_audit : {X : Type 0} (report : LogReport) (command : Option (CommandOf (
 for_audit report command contents licence options third f names FR OR old new s is h =
     subst (λ (c : Option (CommandOf (List ℕ))). ForFiles c contents (λ told. IsDone FR OR told old new s)) is
     (subst (λ (more : List Bytes). IsDone FR OR (Audit report (record { licence = contents licence; options = contents options; third = contents third; more = more })) old new s) (sym (map-map contents f names)) h)
-
--- it ends with no word of the command set only where there is no command
-pub never_usage : (FR OR : Type 0) (told : CommandOf Bytes) (old new : Bytes) (s : Status) → IsDone FR OR told old new s → s ≡ Usage → ⊥
-never_usage FR OR told old new s d e = (subst (EndSays FR OR old new (outcome_of d.readings)) e d.says).1
 
 unwritten_at : (FR OR : Type 0) (told : CommandOf Bytes) (old new : Bytes) (outcome : Result Due Status) (s : Status) → EndSays FR OR old new outcome s → s ≢ Done → ((line : ℕ) → s ≢ AuditNo line) → s ≢ WriteFault → new ≡ old
 unwritten_at FR OR told old new outcome Usage says undone other kept = says.0
@@ -149,25 +146,21 @@ same_reading None reading is reads = cc
 same_reading (Some held) None is reads = absurd reads
 same_reading (Some held) (Some bytes) is reads = ap Some reads
 
-both : (a b : Bool) → (a && b) ≡ true → (a ≡ true) × (b ≡ true)
-both true b e = (refl, e)
-both false b e = cc
-
 same_readings : (told readings : List Bytes) → list_all is_some told ≡ true → AreReadings ⊥ told readings → readings ≡ told
 same_readings [] [] are reads = refl
 same_readings [] (reading ∷ readings) are reads = absurd reads
 same_readings (told ∷ others) [] are reads = absurd reads
 same_readings (told ∷ others) (reading ∷ readings) are reads =
-    let parts = both (is_some told) (list_all is_some others) are in
+    let parts = and_parts (is_some told) (list_all is_some others) are in
     let first = same_reading told reading parts.0 reads.0 in
     let behind = same_readings others readings parts.1 reads.1 in
     cc
 
 same_run : (told readings : RunFiles Bytes) → is_run_told told ≡ true → AreOfRun ⊥ told readings → readings ≡ told
 same_run told readings are reads =
-    let p = both (is_some told.licence) (is_some told.options && (is_some told.third && list_all is_some told.more)) are in
-    let q = both (is_some told.options) (is_some told.third && list_all is_some told.more) p.1 in
-    let r = both (is_some told.third) (list_all is_some told.more) q.1 in
+    let p = and_parts (is_some told.licence) (is_some told.options && (is_some told.third && list_all is_some told.more)) are in
+    let q = and_parts (is_some told.options) (is_some told.third && list_all is_some told.more) p.1 in
+    let r = and_parts (is_some told.third) (list_all is_some told.more) q.1 in
     let e = same_reading told.licence readings.licence p.0 reads.licence in
     let f = same_reading told.options readings.options q.0 reads.options in
     let g = same_reading told.third readings.third r.0 reads.third in
@@ -177,7 +170,7 @@ same_run told readings are reads =
 -- where all is told, just that decides
 pub told_is_sure : (told : CommandOf Bytes) → are_told told ≡ true → IsSure told (outcome_of told)
 told_is_sure (Check told) are (Check readings) reads =
-    let parts = both (is_some told.licence) (is_some told.options) are in
+    let parts = and_parts (is_some told.licence) (is_some told.options) are in
     let e = same_reading told.licence readings.licence parts.0 reads.licence in
     let f = same_reading told.options readings.options parts.1 reads.options in
     rw (e, f) refl

@@ -1,12 +1,11 @@
 use Rattle.std.proofs.Common.{◌≡◌, ℕ, suc, ◌+◌, ◌<◌, ◌≤◌, List, [], ◌∷◌, ◌++◌, length, map, take, drop, get_or, Result, Ok, Err, refl, sym, ap, ◌∙◌, subst, arith, drop-cons, take-append-drop, append-nil, append_assoc}
-use Rattle.std.proofs.lemmas.List.{get_or-map, length-append, take_all, take_more}
+use Rattle.std.proofs.lemmas.List.{get_or-map, length-append, take_all, take_more, length-map}
 use Rattle.options_text.specs.Answers.{◌>>=◌}
 use Rattle.options_text.specs.Options.{OptionsFile}
 use Rattle.licence_tool.specs.Files.{AreReadings, Bytes, IsReading}
 use Rattle.licence_tool.specs.Outcome.{options_heard, sets_heard}
 use Rattle.licence_tool.specs.Tool.{AreHeard, RefusalSays}
 use Rattle.licence_tool.proofs.Hearing.{refusal_onward}
-use Rattle.licence_tool.proofs.WordLists.{same_length}
 use Rattle.licence_tool.proofs.Checks.{agreeing_all, are_agreeing, wider_all}
 use Rattle.licence_tool.specs.declared.status.Status.{Status}
 use Rattle.licence_tool.specs.declared.status.Status.TheVariants.{NoMemory}
@@ -32,7 +31,7 @@ pub told_at : {X Y : Type 0} (f : X → Y) (xs : List X) (i : ℕ) (x : X) → i
 told_at f xs i x within is = get_or-map f xs i x (f x) within ∙ ap f (sym is)
 
 pub within_map : {X Y : Type 0} (f : X → Y) (xs : List X) (i : ℕ) → i < length xs → i < length (map f xs)
-within_map f xs i within = omega (arith, same_length f xs)
+within_map f xs i within = omega (arith, length-map xs f)
 
 told_around : {X Y : Type 0} (f : X → Y) (xs : List X) (i : ℕ) (x : X) → i < length xs → x ≡ get_or xs i x → take i (map f xs) ++ (f x ∷ drop (suc i) (map f xs)) ≡ map f xs
 told_around {Y = Y} f xs i x within is =

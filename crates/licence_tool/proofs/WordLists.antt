@@ -1,17 +1,12 @@
-use Rattle.std.proofs.Common.{◌≡◌, ℕ, suc, ◌≤◌, ◌<◌, ◌-◌, Bool, true, false, List, [], ◌∷◌, length, map, take, drop, get_or, None, Some, refl, ap, ◌∙◌, arith, le-leb}
+use Rattle.std.proofs.Common.{◌≡◌, ℕ, ◌≤◌, ◌<◌, ◌-◌, Bool, true, false, List, [], ◌∷◌, length, map, take, drop, get_or, None, Some, refl, ap, ◌∙◌, arith, le-leb}
 use Rattle.std.specs.List.{list_all}
 use Rattle.std.proofs.lemmas.Bool.{lt-leb}
-use Rattle.std.proofs.lemmas.List.{take_all}
+use Rattle.std.proofs.lemmas.List.{take_all, length-map}
 use Rattle.std.proofs.lemmas.List.Folds.{list_all-map}
 use Rattle.licence_tool.specs.Command.{is_plain_word, run_of}
 
--- as many images as elements
-pub same_length : {X Y : Type 0} (f : X → Y) (xs : List X) → length (map f xs) ≡ length xs
-same_length f [] = refl
-same_length f (x ∷ xs) = ap suc (same_length f xs)
-
 shorter : {X : Type 0} (f : X → List ℕ) (xs : List X) (n : ℕ) → length xs ≤ n → length (map f xs) ≤ n
-shorter f xs n few = rw (same_length f xs) few
+shorter f xs n few = rw (length-map xs f) few
 
 -- what is behind three elements
 behind : {X : Type 0} (x y z : X) (xs : List X) → take (length (x ∷ y ∷ z ∷ xs) - 3) (drop 3 (x ∷ y ∷ z ∷ xs)) ≡ xs
@@ -57,4 +52,4 @@ too_many_names f (x ∷ []) many = refl
 too_many_names f (x ∷ y ∷ []) many = refl
 too_many_names f (x ∷ y ∷ z ∷ xs) many =
     let long : 3 < length xs = rw (behind x y z xs) at many in
-    too_many_words _ (f x) (f y) (f z) (map f xs) refl (rw (same_length f xs) long)
+    too_many_words _ (f x) (f y) (f z) (map f xs) refl (rw (length-map xs f) long)

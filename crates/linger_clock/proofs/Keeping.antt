@@ -128,9 +128,6 @@ some_found : (r : Option Deadline) (u : ℕ) → option_map (λ d. d.until) r �
 some_found None u h = absurd (cc)
 some_found (Some x) u h = refl
 
-pub there_by_owner : (d : Deadline) (ds : List Deadline) → until_of d.owner ds ≡ Some d.until → IsSome (find (ties ByOwner d) ds)
-there_by_owner d ds h = rw (find_owner d ds) (some_found (find (is_of d.owner) ds) d.until h)
-
 pub until_of-without : (owner q : ℕ) (ds : List Deadline) → until_of q (without owner ds) ≡ cond (eqb q owner) None (until_of q ds)
 until_of-without owner q [] = elim (eqb q owner) as (λ b. ◌≡◌ {A = Option ℕ} None (cond b None None)) [ true ↦ refl | false ↦ refl ]
 until_of-without owner q (d ∷ ds) = grind (arith, nat_tests, until_of-without owner q ds)

@@ -3,6 +3,7 @@ use Rattle.std.proofs.Common.{◌≡◌, ℕ, ◌+◌, ◌<◌, ◌≤◌, ◌==
 use Rattle.std.specs.List.{find, position, position_or_len, zip}
 use Rattle.std.specs.Prelude.{IsSome}
 use Rattle.std.proofs.lemmas.Bool.{eq-eqb, ltb-true}
+use Rattle.std.proofs.Math.Bool.{and-false}
 use Rattle.lic_types.specs.declared.client.Client.{Client}
 use Rattle.options_machine.specs.declared.rows.Lingerer.{Lingerer}
 use Rattle.options_machine.specs.Decide.{is_left_by}
@@ -14,19 +15,15 @@ use Rattle.linger_table.specs.Slots.{entries_in, mark_in, slot_is_of}
 
 -- a slot that is of the client has its mark
 
-no_and : (b : Bool) → (b && false) ≡ false
-no_and true = refl
-no_and false = refl
-
 marked_by : (client : Client) (l : Lingerer) (b : Bool) → is_left_by client l ≡ b → (mark_of l.client == mark_of client && is_left_by client l) ≡ is_left_by client l
 marked_by client l true e =
     let same : l.client ≡ client = client_eq l.client client e in
     let marks : eqb (mark_of l.client) (mark_of client) ≡ true = eq-eqb (mark_of l.client) (mark_of client) (ap mark_of same) in
     rw (e, marks) refl
-marked_by client l false e = rw e (no_and (mark_of l.client == mark_of client))
+marked_by client l false e = rw e (and-false (mark_of l.client == mark_of client))
 
 marked_test : (client : Client) (slot : Option Lingerer) → (mark_in slot == mark_of client && slot_is_of client slot) ≡ slot_is_of client slot
-marked_test client None = no_and (0 == mark_of client)
+marked_test client None = and-false (0 == mark_of client)
 marked_test client (Some l) = marked_by client l (is_left_by client l) refl
 
 abbrev passes : Client → ℕ × Option Lingerer → Bool

@@ -27,10 +27,6 @@ pub others_same : (o : Option Lingerer) (now : ℕ) (old new : SlotList) → IfS
 others_same None now old new over gone none = ap (λ (s : SlotList). filter (stays_at now) (entries_in s.slots)) none
 others_same (Some l) now old new over gone none = filter-without_one (stays_at now) l (entries_in old.slots) (entries_in new.slots) (one_out (Some l) old new gone) (le-ltb now l.until over)
 
-pub room_same : (o : Option Lingerer) (old new : SlotList) → IfSome o (LetsSlotGo old new) → IfNone o (new ≡ old) → new.room ≡ old.room
-room_same None old new gone none = ap (λ (s : SlotList). s.room) none
-room_same (Some l) old new (at, here, e) none = ap (λ (s : SlotList). s.room) e
-
 -- the entry at a place
 
 pub entry_at : (slots : List (Option Lingerer)) (place slot : ℕ) → slot ≡ slot_of slots place → get_or slots slot None ≡ slice_get (entries_in slots) place

@@ -7,6 +7,7 @@ use Rattle.std.proofs.lemmas.List.Elements.{filter-append}
 use Rattle.std.proofs.lemmas.List.Sums.{count_by-le-length, fold_push, sum_by_push}
 use Rattle.std.proofs.lemmas.Nat.{le-div}
 use Rattle.std.specs.List.{AllByRecursion}
+use Rattle.std.proofs.Math.Bool.{or-true}
 use Rattle.options_machine.specs.Rules.{Rules}
 use Rattle.options_machine.specs.Run.{after, after_entry, after_from}
 use Rattle.options_machine.specs.State.{State, opening}
@@ -105,13 +106,9 @@ untouched sets pool es e day p q = day_grown sets pool es e day false false (ne_
 
 -- The days.
 
-or_true : (b : Bool) → (b || true) ≡ true
-or_true true = refl
-or_true false = refl
-
 has_last : (day : ℕ) (es : List Entry) (e : Entry) → (day_of e.moment == day) ≡ true → has_entry day (es ++ e ∷ []) ≡ true
 has_last day [] e h = rw h refl
-has_last day (x ∷ xs) e h = ap (λ (b : Bool). (day_of x.moment == day) || b) (has_last day xs e h) ∙ or_true (day_of x.moment == day)
+has_last day (x ∷ xs) e h = ap (λ (b : Bool). (day_of x.moment == day) || b) (has_last day xs e h) ∙ or-true (day_of x.moment == day)
 
 has_other : (day : ℕ) (es : List Entry) (e : Entry) → (day_of e.moment == day) ≡ false → has_entry day (es ++ e ∷ []) ≡ has_entry day es
 has_other day [] e h = rw h refl

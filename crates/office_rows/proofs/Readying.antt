@@ -1,15 +1,12 @@
 -- Passes that were dealt, and passes that come back.
-use Rattle.std.proofs.Common.{◌≡◌, ◌∙◌, ℕ, ◌<◌, List, [], ◌∷◌, length, map, get_or, ap, refl, sym, subst, arith}
+use Rattle.std.proofs.Common.{◌≡◌, ◌∙◌, ℕ, ◌<◌, List, length, map, get_or, ap, refl, sym, subst, arith}
 use Rattle.std.proofs.lemmas.List.{get_or-map, length-map}
 use Rattle.feature_desk.specs.Sitters.{DeskView, IsOf, Sitter, account_of, newcomer}
 use Rattle.licence_office.specs.Offices.{AreAt}
 use Rattle.office_view.specs.View.{View}
 use Rattle.session.specs.Pass.{IsIdle}
 use Rattle.office_rows.specs.Ready.{HasSets, IsReady}
-
-pub the_first : {X : Type 0} (xs : List X) → 0 < length xs → X
-the_first [] l = absurd (omega arith)
-the_first (x ∷ xs) l = x
+use Rattle.stat_board.specs.Fronts.{the_first}
 
 module _ (office : View DeskView) (paired : length office.desks ≡ length office.pools) where
   -- a party that has asked nothing yet

@@ -1,5 +1,5 @@
 use Rattle.std.proofs.Common.{◌≡◌, ℕ, ◌+◌, ◌<◌, ◌≤◌, Bool, true, false, ◌&&◌, cond, leb, List, [], ◌∷◌, ◌++◌, map, Option, None, Some, arith, refl, sym, ap, subst, ◌∙◌, append_assoc}
-use Rattle.std.proofs.lemmas.Bool.{leb-true, leb-false, le-leb, lt-leb, false≢true}
+use Rattle.std.proofs.lemmas.Bool.{leb-true, leb-false, le-leb, lt-leb, false≢true, and_parts}
 use Rattle.lic_types.specs.Groups.{GroupLine}
 use Rattle.lic_types.specs.declared.client.RuleLine.{RuleLine}
 use Rattle.lic_types.specs.declared.note.Note.{Note}
@@ -108,10 +108,6 @@ picked_none false true n h = cc
 picked_none false false true h = cc
 picked_none false false false h = (refl, (refl, refl))
 
-both_true : (a b : Bool) → (a && b) ≡ true → (a ≡ true) × (b ≡ true)
-both_true true b h = (refl, h)
-both_true false b h = absurd cc
-
 abbrev of_groups : List GroupLine → Option ℕ
 of_groups gs = first_line (λ (g : GroupLine). g.line) gs
 
@@ -137,7 +133,7 @@ the gs rs ns logs = record { groups = gs; lines = rs; notes = ns; logs = logs }
 pub group_first : (g : GroupLine) (gs : List GroupLine) (rs : List RuleLine) (ns : List Note) (logs : List LogKeyword)
     → IsRising (the (g ∷ gs) rs ns logs) → next_in (the (g ∷ gs) rs ns logs) ≡ OfGroup → entries_in_order (the (g ∷ gs) rs ns logs) ≡ Lists g ∷ entries_in_order (the gs rs ns logs)
 group_first g gs rs ns logs rising next =
-    let tests : (comes_before (Some g.line) (of_rules rs) ≡ true) × (comes_before (Some g.line) (of_notes ns) ≡ true) = both_true _ _ (picked_group _ _ _ next) in
+    let tests : (comes_before (Some g.line) (of_rules rs) ≡ true) × (comes_before (Some g.line) (of_notes ns) ≡ true) = and_parts _ _ (picked_group _ _ _ next) in
     first_of [] (Lists g) (map Lists gs ++ (map Rules rs ++ passes ns logs)) tt
     (least_both g.line (map Lists gs) (map Rules rs ++ passes ns logs) (least_groups g.line g.line gs (omega arith) rising.groups)
     (least_both g.line (map Rules rs) (passes ns logs) (before_rules g.line rs tests.0 rising.lines) (before_notes g.line ns logs tests.1 rising.notes)))

@@ -1,6 +1,7 @@
-use Rattle.std.proofs.Common.{◌≡◌, ℕ, Bool, true, false, ◌||◌, not, cond, List, [], ◌∷◌, find, Option, None, Some, refl, sym, ap, ◌∙◌}
+use Rattle.std.proofs.Common.{◌≡◌, ℕ, Bool, ◌||◌, not, cond, List, [], ◌∷◌, find, Option, None, Some, refl, sym, ap, ◌∙◌}
 use Rattle.std.proofs.lemmas.Bool.Decides.{Decides-like, same_from_decides}
 use Rattle.std.specs.Cmp.Lexicographic.{bytes_decides}
+use Rattle.std.proofs.Math.Bool.{or-false}
 use Rattle.lic_types.specs.Groups.{GroupLine, same_name}
 use Rattle.lic_types.specs.declared.client.RuleLine.{RuleLine}
 use Rattle.lic_types.specs.declared.client.Who.{Who}
@@ -14,14 +15,10 @@ use Rattle.options_text.specs.Options.{has_hosts, has_users, is_defined, is_nobo
 same_either_way : (a b : List ℕ) → same_name a b ≡ same_name b a
 same_either_way a b = same_from_decides (same_name a b) (same_name b a) (bytes_decides a b) (Decides-like (same_name b a) (λ e. sym e) (λ e. sym e) (bytes_decides b a))
 
-or_none : (b : Bool) → (b || false) ≡ b
-or_none true = refl
-or_none false = refl
-
 pub has_more : (old new : List (List ℕ)) (name : List ℕ) → new ≡ with_name old name → (other : List ℕ) → has_name other new ≡ (has_name other old || same_name name other)
 has_more old new name is other =
     ap (has_name other) is ∙ has_with other name old
-    ∙ ap (λ (b : Bool). has_name other old || b) (or_none (same_name other name) ∙ same_either_way other name)
+    ∙ ap (λ (b : Bool). has_name other old || b) (or-false (same_name other name) ∙ same_either_way other name)
 
 -- Where the names are those of groups, what is listed is what some line defines.
 

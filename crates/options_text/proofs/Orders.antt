@@ -1,6 +1,7 @@
-use Rattle.std.proofs.Common.{◌≡◌, ℕ, ◌<◌, ◌≤◌, ◌&&◌, Bool, true, false, List, [], ◌∷◌, length, map, Option, None, Some, Result, Ok, Err, IfOk, refl, sym, ap, subst, ◌∙◌, arith}
+use Rattle.std.proofs.Common.{◌≡◌, ℕ, true, List, [], ◌∷◌, length, map, Option, None, Some, Result, Ok, Err, IfOk, refl, sym, ap, subst, ◌∙◌, arith}
 use Rattle.std.specs.List.{filter_map, list_all}
 use Rattle.std.specs.Option.{option_map}
+use Rattle.std.proofs.lemmas.Bool.{and_parts}
 use Rattle.lic_text.specs.Lines.{NumbersRise, lines_of}
 use Rattle.lic_types.specs.Groups.{GroupLine}
 use Rattle.lic_types.specs.declared.client.RuleLine.{RuleLine}
@@ -35,15 +36,11 @@ notes_rise n (Lists group ∷ entries) r = rises_from_below n group.line _ (omeg
 notes_rise n (Rules rule ∷ entries) r = rises_from_below n rule.line _ (omega (arith, r.0)) (notes_rise rule.line entries r.1)
 notes_rise n (Passes note log ∷ entries) r = (r.0, notes_rise note.line entries r.1)
 
-both : (a b : Bool) → (a && b) ≡ true → (a ≡ true) × (b ≡ true)
-both true b h = (refl, h)
-both false b h = absurd cc
-
 rules_within : (entries : List Entry) → list_all is_fit entries ≡ true → list_all (λ (l : RuleLine). is_within_limits l.rule) (filter_map rule_in entries) ≡ true
 rules_within [] h = refl
 rules_within (Lists group ∷ entries) h = rules_within entries h
 rules_within (Rules rule ∷ entries) h =
-    let parts : (is_within_limits rule.rule ≡ true) × (list_all is_fit entries ≡ true) = both _ _ h in
+    let parts : (is_within_limits rule.rule ≡ true) × (list_all is_fit entries ≡ true) = and_parts _ _ h in
     rw parts.0 (rules_within entries parts.1)
 rules_within (Passes note log ∷ entries) h = rules_within entries h
 

@@ -8,6 +8,7 @@ use Rattle.std.specs.Cmp.Lexicographic.{bytes_decides}
 use Rattle.std.specs.List.{cons_option, filter_map, list_any}
 use Rattle.std.specs.List.Sorted.{IsPermutation}
 use Rattle.std.specs.Option.{option_map}
+use Rattle.std.proofs.lemmas.Bool.{or_right}
 use Rattle.lic_types.specs.Groups.{GroupLine, same_name}
 use Rattle.lic_types.specs.declared.client.Client.{Client}
 use Rattle.lic_types.specs.declared.client.RuleLine.{RuleLine}
@@ -124,10 +125,6 @@ found_in_groups groups client lines places printed same h =
     sym (same_prints lines places name) ∙ list_any-IsPermutation (λ (x : Printed). x.print == name_print name) (printed_of lines places) printed same ∙ e in
     found_among groups client (lines_at lines places)
     (record { user = none client.user h.user; host = none client.host h.host; display = none client.display h.display; project = none client.project h.project })
-
-or_right : (a b : Bool) → b ≡ true → (a || b) ≡ true
-or_right true b h = refl
-or_right false b h = h
 
 -- whether a place is among these
 abbrev has_place : ℕ → List ℕ → Bool

@@ -3,6 +3,7 @@ use Rattle.std.proofs.lemmas.Bool.{eqb-true, eqb-false}
 use Rattle.std.proofs.lemmas.Grind.{get_or-set_at}
 use Rattle.std.proofs.lemmas.List.{get_or-set_other, length-set}
 use Rattle.std.specs.Option.{is_none}
+use Rattle.std.proofs.Math.Bool.{and-false}
 use Rattle.options_machine.specs.Own.{holds, queues, stands_for}
 use Rattle.options_machine.specs.Step.{set_asked}
 use Rattle.options_machine.specs.declared.reply.Entry.{Entry}
@@ -21,10 +22,6 @@ stands_only true false e = cc
 stands_only false true e = cc
 stands_only false false e = refl
 
-stands_never : (b : Bool) → (b && false) ≡ false
-stands_never true = refl
-stands_never false = refl
-
 -- as many parties have a place or none
 pub length_moved : (places : List Bool) (party : ℕ) (reply : Reply) (asked : Option ℕ) → length (places_moved places party reply asked) ≡ length places
 length_moved places party reply None = length-set places party (says_place reply)
@@ -41,7 +38,7 @@ moved_one h e places p t is asks within before =
 
 moved_none : (h : List Entry) (e : Entry) (p n : ℕ) → Some n ≡ set_asked e.request.kind → (holds h p || queues h p) ≡ (holds (h ++ e ∷ []) p || queues (h ++ e ∷ []) p)
 moved_none h e p n asks =
-    let stands : stands_for p e ≡ false = ap (λ (o : Option ℕ). eqb e.request.party p && is_none o) (sym asks) ∙ stands_never (eqb e.request.party p) in
+    let stands : stands_for p e ≡ false = ap (λ (o : Option ℕ). eqb e.request.party p && is_none o) (sym asks) ∙ and-false (eqb e.request.party p) in
     ap (λ (b : Bool). cond b (says_place e.reply) (holds h p || queues h p)) (sym stands) ∙ sym (place_then h e p)
 
 -- a list that tells which parties keep a place, after one more entry

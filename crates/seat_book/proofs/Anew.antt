@@ -5,7 +5,6 @@ use Rattle.std.proofs.lemmas.Bool.{eqb-true, eqb-false, eq-eqb, ne_eqb, ltb-true
 use Rattle.std.proofs.lemmas.List.Folds.{list_all-append}
 use Rattle.std.proofs.lemmas.List.{drop-set-lt, take_more_set}
 use Rattle.std.proofs.lemmas.Option.{get_or_from_slice_get, slice_get_past}
-use Rattle.std.proofs.lemmas.Grind.{common_steps}
 use Rattle.std.proofs.Math.ListN.{length-set}
 use Rattle.std.specs.Prelude.{slice_get, slice_set}
 use Rattle.lic_types.specs.declared.client.Client.{Client}
@@ -22,8 +21,8 @@ use Rattle.options_machine.specs.Step.{holders_anew, lingering_anew, next_charge
 use Rattle.options_machine.proofs.Counts.{and_left, and_right, count-push}
 use Rattle.options_machine.proofs.Keeps.{charges_is, charges_of}
 use Rattle.seat_rows.specs.Seats.{charged_if}
-use Rattle.seat_counters.specs.Counts.{AreOf, AreSmall, Counts, counts_with, first_line, has_seat}
-use Rattle.seat_counters.proofs.Counted.{counts_are_of, counts_are_small, counts_more, seat_is_room}
+use Rattle.seat_counters.specs.Counts.{AreSmall, Counts, counts_with, first_line, has_seat}
+use Rattle.seat_counters.proofs.Counted.{counts_are_small, counts_more, seat_is_room}
 use Rattle.seat_book.specs.Charges.{AreAnewBelow, AreAnewUpTo, counts_in}
 
 -- the charge that comes next, by the counts
@@ -213,10 +212,6 @@ anew_small r party old new counts a few =
     let most : length done ≤ 256 = omega (arith, few, ap length a.whole, length-append a.front a.back, length_anew r [] a.front) in
     subst AreSmall (sym a.counted) (counts_are_small r (record opening { holders = done }) (omega (arith, most)))
 
--- and there is one for each line
-pub anew_of : (r : Rules) (party : ℕ) (old new : List Holder) (counts : Counts) → AreAnewBelow r party old new counts → AreOf r counts
-anew_of r party old new counts a = subst (AreOf r) (sym a.counted) (counts_are_of r (record opening { holders = holders_anew r [] a.front }))
-
 none_inside : (n : ℕ) (xs : List Holder) → list_all (λ (h : Holder). ltb h.party n) xs ≡ true → list_all (λ (h : Holder). leb n h.party) xs ≡ true → xs ≡ []
 none_inside n [] e f = refl
 none_inside n (x ∷ xs) e f =
@@ -236,14 +231,6 @@ anew_all r n old new counts a inside =
     )
 
 -- what lingers
-
--- at first none has its charge anew
-pub linger_none : (r : Rules) (hs : List Holder) (ls : List Lingerer) (counts : Counts) → counts ≡ counts_in r hs [] → AreAnewUpTo r 0 hs ls ls counts
-linger_none r hs ls counts e = record {
-  length_stays = refl;
-  anew = ap (λ (cs : List Charge). lingering_anew r cs ls) (append-nil (map (λ (h : Holder). h.charge) hs));
-  counted = e;
-}
 
 linger_snoc : (r : Rules) (hs : List Holder) (ls : List Lingerer) (l : Lingerer) → counts_in r hs (ls ++ l ∷ []) ≡ counts_with r l.client l.charge (counts_in r hs ls)
 linger_snoc r hs ls l =
@@ -294,16 +281,3 @@ pub linger_small : (r : Rules) (at : ℕ) (hs : List Holder) (old new : List Lin
 linger_small r at hs old new counts a more few =
     let some : length (take at new) ≤ at = omega (arith, length-take at new) in
     subst AreSmall (sym a.counted) (counts_are_small r (record opening { holders = hs; lingering = take at new }) (omega (arith, some, more, few, a.length_stays)))
-
-pub linger_of : (r : Rules) (at : ℕ) (hs : List Holder) (old new : List Lingerer) (counts : Counts) → AreAnewUpTo r at hs old new counts → AreOf r counts
-linger_of r at hs old new counts a = subst (AreOf r) (sym a.counted) (counts_are_of r (record opening { holders = hs; lingering = take at new }))
-
--- behind the last entry all have their charges anew
-pub linger_all : (r : Rules) (at : ℕ) (hs : List Holder) (old new : List Lingerer) (counts : Counts) → AreAnewUpTo r at hs old new counts → length new ≤ at
-    → (new ≡ lingering_anew r (map (λ (h : Holder). h.charge) hs) old) × (counts ≡ counts_in r hs new)
-linger_all r at hs old new counts a end =
-    let none : drop at new ≡ [] = grind (arith, common_steps) in
-    let all : take at new ≡ new = grind (arith, common_steps) in (
-      sym all ∙ sym (append-nil (take at new)) ∙ ap (λ (ls : List Lingerer). take at new ++ lingering_anew r (charges_of hs (take at new)) ls) (sym none) ∙ a.anew,
-      a.counted ∙ ap (counts_in r hs) all,
-    )

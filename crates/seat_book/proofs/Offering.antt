@@ -1,6 +1,6 @@
 use Rattle.std.proofs.Common.{◌≡◌, ℕ, ◌+◌, ◌<◌, ◌≤◌, ◌^◌, Bool, true, false, cond, List, [], ◌∷◌, length, get_or, None, refl, sym, ◌∙◌, arith, subst, leb, eqb}
 use Rattle.std.specs.List.{count_by, find, remove}
-use Rattle.std.proofs.lemmas.Bool.{eq-eqb, leb-false}
+use Rattle.std.proofs.lemmas.Bool.{eq-eqb}
 use Rattle.std.proofs.lemmas.List.Sums.{sum_by-remove}
 use Rattle.options_machine.specs.declared.decision.Decision.TheVariants.{Retake, Grant}
 use Rattle.options_machine.specs.declared.reply.Charge.{Charge}
@@ -33,16 +33,6 @@ queuer_has_none r s at q h e k =
     let here : is_queuer q.party q ≡ true = eq-eqb q.party q.party refl in
     let one : count_by (is_queuer q.party) (remove s.queue at) + 1 ≡ count_by (is_queuer q.party) s.queue = rw here at (count-remove (is_queuer q.party) s.queue at q h e) in
     none_found (is_holder q.party) s.holders (omega (arith, one, k.single q.party))
-
-inside_cases : (n party : ℕ) (b : Bool) → leb n party ≡ b → cond b 1 0 ≤ 0 → party < n
-inside_cases n party true e none = absurd (omega (arith, none))
-inside_cases n party false e none = leb-false n party e
-
--- and of one below their number
-pub queuer_inside : (n : ℕ) (s : State) (at : ℕ) (q : Queuer) → at < length s.queue → q ≡ get_or s.queue at q → IsBounded n s → q.party < n
-queuer_inside n s at q h e b =
-    let out : count_by (λ (x : Queuer). leb n x.party) (remove s.queue at) + cond (leb n q.party) 1 0 ≡ count_by (λ (x : Queuer). leb n x.party) s.queue = count-remove (λ (x : Queuer). leb n x.party) s.queue at q h e in
-    inside_cases n q.party (leb n q.party) refl (omega (arith, out, b.outside))
 
 -- the entry that is served is one holder more and one entry of the queue less
 

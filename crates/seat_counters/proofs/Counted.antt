@@ -1,7 +1,6 @@
 use Rattle.std.proofs.Common.{◌≡◌, ℕ, ◌+◌, ◌-◌, ◌<◌, ◌≤◌, ◌^◌, Bool, true, false, cond, List, [], ◌∷◌, map, refl, ap, ◌∙◌, arith, get_or}
 use Rattle.std.specs.Prelude.{All, find}
 use Rattle.std.specs.Option.{option_map}
-use Rattle.std.proofs.lemmas.List.{length-map}
 use Rattle.std.proofs.lemmas.List.Elements.{All-map}
 use Rattle.lic_types.specs.declared.client.Client.{Client}
 use Rattle.lic_types.specs.declared.client.RuleLine.{RuleLine}
@@ -14,7 +13,7 @@ use Rattle.options_machine.specs.Rules.{Rules, applies}
 use Rattle.options_machine.specs.State.{State, charges, in_use, same_charge}
 use Rattle.options_machine.specs.Decide.{has_room, match_count, number_of_limit, reached_max_line}
 use Rattle.std.proofs.lemmas.List.Sums.{count_by-le-length}
-use Rattle.seat_counters.specs.Counts.{AreOf, AreSmall, Counts, counts_of, counts_with, counts_without, first_line, has_seat, is_charged, is_used_up, speaks_of, with_less, with_more}
+use Rattle.seat_counters.specs.Counts.{AreSmall, Counts, counts_of, counts_with, counts_without, first_line, has_seat, is_charged, is_used_up, speaks_of, with_less, with_more}
 
 -- counts of lines
 
@@ -58,13 +57,6 @@ counts_equal r s new e f =
     counts_same (counts_of r new) (counts_of r s) (e Open)
     (same_map (λ (m : Limit). charges s (Reserve m.line.line)) (λ (m : Limit). charges new (Reserve m.line.line)) (λ m. e (Reserve m.line.line)) r.reserves)
     (same_map (λ (m : Limit). match_count r s m.line) (λ (m : Limit). match_count r new m.line) (λ m. f m.line) r.maxes)
-
--- there is a count for each line
-pub counts_are_of : (r : Rules) (s : State) → AreOf r (counts_of r s)
-counts_are_of r s = record {
-  reserves = length-map r.reserves (λ (m : Limit). charges s (Reserve m.line.line));
-  maxes = length-map r.maxes (λ (m : Limit). match_count r s m.line);
-}
 
 all_small : (f : Limit → ℕ) → ((m : Limit) → f m + 1 < 2 ^ 32) → (ms : List Limit) → All (λ n. n + 1 < 2 ^ 32) (map f ms)
 all_small f h ms = All-map (λ n. n + 1 < 2 ^ 32) f ms (λ k d below. h (get_or ms k d))

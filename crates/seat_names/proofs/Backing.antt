@@ -101,9 +101,3 @@ module _ (t : TableNet) (valid : Valid (plan t.net)) (start : Pass) (b c : Back)
   -- the measure
   pub backing_falls : back_at (plan t.net) start.number (pass_in_back c).place < back_at (plan t.net) start.number (pass_in_back b).place
   backing_falls = let f = fallen in omega arith
-
--- the party is out
-pub backing_end : (t : TableNet) (start : Pass) (b : Back) → Backing t start b → kind_in_back b ≡ outside
-    → IsOut (pass_in_back b) × ((way : List Pass) × Leads start way (pass_in_back b) × (length way ≡ back_at (plan t.net) start.number start.place))
-backing_end t start b so k = let o = so.rests (sym so.kind ∙ k) in
-    (o, (so.way, so.leads, let a = so.count in let z : back_at (plan t.net) start.number (pass_in_back b).place ≡ 0 = ap (back_at (plan t.net) start.number) o.place_is in omega arith))

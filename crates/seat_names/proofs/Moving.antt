@@ -1,12 +1,12 @@
 -- What an access tells of the pass, where the place that is due is known.
-use Rattle.std.proofs.Common.{◌≡◌, ℕ, ◌+◌, ◌-◌, List, [], ◌∷◌, ◌++◌, refl, sym, ap, ◌∙◌, subst}
+use Rattle.std.proofs.Common.{◌≡◌, ℕ, ◌+◌, ◌-◌, refl, sym, ap, ◌∙◌, subst}
 use Rattle.kex_core.specs.declared.place.Place.{Place}
 use Rattle.kex_core.specs.declared.place.Place.TheVariants.{Out, Dec, Mark, Look, Spin, Naming, Named, Holding, Clearing, Inc, Unmark}
-use Rattle.kex_core.specs.Worlds.{due, value_found, after}
+use Rattle.kex_core.specs.Worlds.{value_found, after}
 use Rattle.kex_core.specs.Laws.{Placed}
 use Rattle.kex_core.specs.Costs.{is_spin, kept_at}
 use Rattle.kex_core.specs.Shapes.{plan}
-use Rattle.kex_words.specs.Passes.{Pass, IsOut, due_at, kind_of, got_after, outside, entering}
+use Rattle.kex_words.specs.Passes.{Pass, IsOut, due_at, kind_of, got_after, outside}
 use Rattle.kex_words.specs.Moves.{Moved}
 
 is_out : (d : Place) → kind_of d ≡ outside → d ≡ Out
@@ -52,28 +52,3 @@ module _ (p q : Pass) (m : Moved p q) where
         firsts = ap (λ (z : Pass). z.firsts) m.now ∙ ap (λ (z : Place). kept_at z (p.firsts + 1 - is_spin (due_at p))) a;
         spins = ap (λ (z : Pass). z.spins) m.now ∙ ap (λ (z : Place). kept_at z (p.spins + is_spin (due_at p))) a;
       }
-
--- among the stages nothing is taken
-pub entering_got : (d : Place) (l : List ℕ) → kind_of d ≡ entering → got_after d l ≡ l
-entering_got (Dec j) l k = refl
-entering_got (Mark j) l k = refl
-entering_got (Look j) l k = refl
-entering_got (Spin j) l k = refl
-entering_got Out l k = refl
-entering_got (Naming i) l k = refl
-entering_got (Named s) l k = cc
-entering_got (Holding s) l k = refl
-entering_got (Clearing s) l k = refl
-entering_got (Inc j) l k = refl
-entering_got (Unmark j) l k = refl
-
--- whoever has a number and takes its card
-module _ (p q : Pass) (m : Moved p q) (s : ℕ) (at : p.place ≡ Named s) where
-  named_due : due_at p ≡ Named s
-  named_due = ap (due (plan p.table.net) p.number) at
-
-  pub held_place : q.place ≡ Holding s
-  held_place = moved_place p q m (Named s) named_due
-
-  pub held_got : q.got ≡ p.got ++ s ∷ []
-  held_got = moved_got p q m (Named s) named_due

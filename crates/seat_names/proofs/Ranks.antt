@@ -1,5 +1,6 @@
 -- How many accesses lead out, and how many tests to a number: each access takes one away.
 use Rattle.std.proofs.Common.{◌≡◌, ℕ, ◌+◌, ◌*◌, ◌<◌, ◌≤◌, true, cond, eqb, ap, ◌∙◌, arith}
+use Rattle.std.proofs.lemmas.Bool.{eqb-true}
 use Rattle.kex_core.specs.declared.place.Place.{Place}
 use Rattle.kex_core.specs.declared.place.Place.TheVariants.{Out, Dec, Mark, Look, Spin, Naming, Named, Holding, Clearing, Inc, Unmark}
 use Rattle.kex_core.specs.Nets.{Plan, Valid, on_path, before}
@@ -7,7 +8,7 @@ use Rattle.kex_core.specs.Worlds.{back, after}
 use Rattle.kex_core.specs.Laws.{Stage, Placed}
 use Rattle.kex_core.specs.Costs.{rank, depth}
 use Rattle.kex_core.proofs.Thresholds.{below}
-use Rattle.kex_core.proofs.Sums.{chosen, eq_from, ne_from, over_same, over_zero, over_one}
+use Rattle.kex_core.proofs.Sums.{chosen, ne_from, over_same, over_zero, over_one}
 use Rattle.kex_core.proofs.Moves.{below_yes, below_no, below_same, next_below, start_low, before_is}
 use Rattle.seat_names.specs.Ways.{back_at}
 
@@ -26,7 +27,7 @@ module _ (net : Plan) (valid : Valid net) (p : ℕ) (mine : p < net.parties) whe
   -- going back from j there are two accesses for each stage before it
   back_back : (j : ℕ) → j ≤ net.stages → on_path net p j ≡ true → back_at net p (back net p j) ≡ 2 * rank net p j
   back_back j l o = chosen (λ (q : Place). back_at net p q ≡ 2 * rank net p j) (eqb (net.start p) j) Out (Inc (before net p j))
-      (λ e. let f : rank net p (net.start p) ≡ rank net p j = ap (rank net p) (eq_from (net.start p) j e) in let a = rank_start in omega arith)
+      (λ e. let f : rank net p (net.start p) ≡ rank net p j = ap (rank net p) (eqb-true (net.start p) j e) in let a = rank_start in omega arith)
       (λ e. let r = before_is net valid p mine j l o (ne_from (net.start p) j e) in let low = r.2 in let a = rank_next (before net p j) (omega arith, r.1) in
       let f : rank net p (net.next (before net p j)) ≡ rank net p j = ap (rank net p) r.0 in omega arith)
 

@@ -1,12 +1,13 @@
 -- Which turns leave a party among the stages.
 use Rattle.std.proofs.Common.{◌≡◌, ◌≢◌, ◌⊎◌, ℕ, ◌+◌, ◌≤◌, cond, eqb, refl, sym, ap, ◌∙◌, subst, ⊎_elim, inl, inr}
+use Rattle.std.proofs.lemmas.Bool.{eqb-true, eq-eqb}
 use Rattle.kex_core.specs.declared.place.Place.{Place}
 use Rattle.kex_core.specs.declared.place.Place.TheVariants.{Out, Dec, Mark, Look, Spin, Naming, Named, Holding, Clearing, Inc, Unmark}
 use Rattle.kex_core.specs.Nets.{Plan}
 use Rattle.kex_core.specs.Worlds.{place_past, value_found, after}
 use Rattle.kex_core.specs.Shapes.{plan}
 use Rattle.kex_core.specs.Costs.{bound}
-use Rattle.kex_core.proofs.Sums.{chosen, eq_test, ne_test, eq_from, ne_from}
+use Rattle.kex_core.proofs.Sums.{chosen, ne_test, ne_from}
 use Rattle.kex_words.specs.Passes.{Pass, due_at, kind_of, entering}
 use Rattle.kex_words.specs.Moves.{Moved}
 use Rattle.seat_names.specs.declared.turns.Turn.{Turn}
@@ -17,7 +18,7 @@ use Rattle.seat_names.specs.Turns.{pass_in_turn, kind_in_turn, IsAgain, Stays, T
 -- whoever has passed stage j is among the stages, unless Exit is next
 passed_in : (net : Plan) (j : ℕ) → kind_of (place_past net j) ≡ entering → net.next j ≢ net.stages
 passed_in net j k e =
-    let f : place_past net j ≡ cond (eqb net.width 1) (Named 0) (Naming 0) = rw (eq_test (net.next j) net.stages e) refl in
+    let f : place_past net j ≡ cond (eqb net.width 1) (Named 0) (Naming 0) = rw (eq-eqb (net.next j) net.stages e) refl in
     chosen (λ (q : Place). kind_of q ≡ entering → ⊥) (eqb net.width 1) (Named 0) (Naming 0) (λ _ h. cc) (λ _ h. cc) (sym (ap kind_of f) ∙ k)
 
 passed_on : (net : Plan) (j : ℕ) → net.next j ≢ net.stages → kind_of (place_past net j) ≡ entering
@@ -26,7 +27,7 @@ passed_on net j d = rw (ne_test (net.next j) net.stages d) refl
 -- at a test, and else passed
 module _ (net : Plan) (j n m : ℕ) (stop : Place) (among : kind_of stop ≡ entering) where
   met_in : kind_of (cond (eqb n m) stop (place_past net j)) ≡ entering → (n ≡ m) ⊎ (net.next j ≢ net.stages)
-  met_in = chosen (λ (q : Place). kind_of q ≡ entering → (n ≡ m) ⊎ (net.next j ≢ net.stages)) (eqb n m) stop (place_past net j) (λ e _. inl (eq_from n m e)) (λ _ k. inr (passed_in net j k))
+  met_in = chosen (λ (q : Place). kind_of q ≡ entering → (n ≡ m) ⊎ (net.next j ≢ net.stages)) (eqb n m) stop (place_past net j) (λ e _. inl (eqb-true n m e)) (λ _ k. inr (passed_in net j k))
 
   met_on : (n ≡ m) ⊎ (net.next j ≢ net.stages) → kind_of (cond (eqb n m) stop (place_past net j)) ≡ entering
   met_on w = chosen (λ (q : Place). kind_of q ≡ entering) (eqb n m) stop (place_past net j) (λ _. among) (λ d. ⊎_elim (λ (e : n ≡ m). absurd (ne_from n m d e)) (passed_on net j) w)

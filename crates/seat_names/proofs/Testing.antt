@@ -1,13 +1,14 @@
 -- The loop over tests of bits.
 use Rattle.std.proofs.Common.{◌≡◌, ◌≢◌, ℕ, ◌+◌, ◌-◌, ◌<◌, List, [], ◌∷◌, ◌++◌, length, cond, eqb, min, refl, sym, ap, ◌∙◌, subst, length-append, arith}
+use Rattle.std.proofs.lemmas.Bool.{eqb-true}
 use Rattle.kex_core.specs.declared.place.Place.{Place}
 use Rattle.kex_core.specs.declared.place.Place.TheVariants.{Out, Dec, Mark, Look, Spin, Naming, Named, Holding, Clearing, Inc, Unmark}
 use Rattle.kex_core.specs.Nets.{Plan, Valid}
 use Rattle.kex_core.specs.Worlds.{due, after}
 use Rattle.kex_core.specs.Shapes.{plan}
-use Rattle.kex_core.proofs.Sums.{chosen, eq_from, ne_from}
+use Rattle.kex_core.proofs.Sums.{chosen, ne_from}
 use Rattle.kex_core.proofs.Exports.{due_placed}
-use Rattle.kex_words.specs.Passes.{TableNet, Pass, due_at, kind_of, naming, entering}
+use Rattle.kex_words.specs.Passes.{TableNet, Pass, due_at, kind_of, naming}
 use Rattle.kex_words.specs.Moves.{Moved}
 use Rattle.seat_names.specs.Ways.{Leads, tests_at}
 use Rattle.seat_names.proofs.Leading.{leads_more}
@@ -37,11 +38,7 @@ module _ (net : Plan) (p i n : ℕ) where
   -- the number
   pub test_end : i + 1 < net.width → (s : ℕ) → after net p (Naming i) n ≡ Named s → min (s + 1) (net.width - 1) ≡ i + 1
   test_end l s = chosen (λ (q : Place). q ≡ Named s → min (s + 1) (net.width - 1) ≡ i + 1) (eqb n 0) (Named i) (cond (eqb (i + 2) net.width) (Named (i + 1)) (Naming (i + 1))) (λ _ e. let h : i ≡ s = cc in omega arith)
-      (λ _. chosen (λ (q : Place). q ≡ Named s → min (s + 1) (net.width - 1) ≡ i + 1) (eqb (i + 2) net.width) (Named (i + 1)) (Naming (i + 1)) (λ t e. let h : i + 1 ≡ s = cc in let w = eq_from (i + 2) net.width t in omega arith) (λ _ e. cc))
-
-  pub test_in : kind_of (after net p (Naming i) n) ≡ entering → ⊥
-  test_in = chosen (λ (q : Place). kind_of q ≡ entering → ⊥) (eqb n 0) (Named i) (cond (eqb (i + 2) net.width) (Named (i + 1)) (Naming (i + 1))) (λ _ k. cc)
-      (λ _. chosen (λ (q : Place). kind_of q ≡ entering → ⊥) (eqb (i + 2) net.width) (Named (i + 1)) (Naming (i + 1)) (λ _ k. cc) (λ _ k. cc))
+      (λ _. chosen (λ (q : Place). q ≡ Named s → min (s + 1) (net.width - 1) ≡ i + 1) (eqb (i + 2) net.width) (Named (i + 1)) (Naming (i + 1)) (λ t e. let h : i + 1 ≡ s = cc in let w = eqb-true (i + 2) net.width t in omega arith) (λ _ e. cc))
 
 -- the tests so far
 pub record Testing (t : TableNet) (start now : Pass) : Type 0 where
@@ -96,10 +93,6 @@ module _ (t : TableNet) (valid : Valid (plan t.net)) (start now next : Pass) (so
       let e : due_at next ≡ Naming (i + 1) = ap (due (plan next.table.net) next.number) (further k).0 in
       let b : bit_at (due_at now) ≡ i = ap bit_at d in let c : bit_at (due_at next) ≡ i + 1 = ap bit_at e in
       let w : (plan now.table.net).width ≡ t.net.width = ap (λ (z : TableNet). z.net.width) so.table in let l = low in omega arith
-
-  -- no stage comes after a test
-  pub testing_in : kind_of next.place ≡ entering → ⊥
-  testing_in k = test_in (plan now.table.net) now.number i (met now next m) (sym (ap kind_of next_place) ∙ k)
 
   -- the number was found
   pub testing_end : (way : List Pass) × Leads start way next × ((s : ℕ) → next.place ≡ Named s → length way ≡ tests_at t.net.width s (due_at start))

@@ -8,7 +8,6 @@ use Rattle.options_machine.proofs.Counts.{count-cons}
 use Rattle.seat_rows.specs.Beats.{due_marks, earlier_mark, has_come}
 use Rattle.seat_rows.specs.Rows.{AreMarked, holders_in}
 use Rattle.seat_rows.specs.Seats.{is_heard}
-use Rattle.seat_rows.proofs.Rows.{set_same}
 
 -- a mark is no later than a beat that it was noted with
 earlier_low : (o : Option ℕ) (beat : ℕ) → earlier_mark o beat ≤ beat
@@ -56,15 +55,6 @@ marked_same rows marks at g h less there beat k =
   where
     lower : (x : Holder) → h ≡ x → (m : ℕ) × (get_or marks at None ≡ Some m) × (m ≤ g.beat) → (m : ℕ) × (get_or marks at None ≡ Some m) × (m ≤ x.beat)
     lower x e (m, at_mark, low) = (m, at_mark, subst (λ (y : Holder). m ≤ y.beat) e (omega (arith, low, beat)))
-
--- a mark is taken out, and so the seat does not count
-pub marked_off : (rows : List (Option Holder)) (marks : List (Option ℕ)) (at : ℕ) → at < length rows → AreMarked rows marks → AreMarked (set rows at None) (set marks at None)
-marked_off rows marks at less k =
-    marked_by rows marks at None (set marks at None) less (λ q g apart found. other_mark marks at q None g.beat apart (k q g found)) (λ g e. let never : None ≡ Some g = e in absurd (cc))
-
--- there was no seat
-pub marked_back : (rows : List (Option Holder)) (marks : List (Option ℕ)) (at : ℕ) → get_or rows at None ≡ None → AreMarked (set rows at None) marks → AreMarked rows marks
-marked_back rows marks at none k = subst (λ (rs : List (Option Holder)). AreMarked rs marks) (set_same rows at none) k
 
 -- the seat that was there is marked at its beat
 pub marked_again : (rows : List (Option Holder)) (marks : List (Option ℕ)) (at : ℕ) (h : Holder) → at < length rows → length marks ≡ length rows → get_or rows at None ≡ Some h → AreMarked (set rows at None) marks

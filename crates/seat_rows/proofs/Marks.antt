@@ -3,9 +3,9 @@ use Rattle.std.proofs.Common.{◌≡◌, ℕ, ◌+◌, ◌<◌, ◌≤◌, Bool,
 use Rattle.std.specs.List.{count_by, find}
 use Rattle.std.specs.Option.{option_map}
 use Rattle.std.specs.Prelude.{IsNone, IsSome, is_some}
-use Rattle.std.proofs.lemmas.Bool.{eqb-true, eqb-false, le-leb, le-ltb, lt-leb, lt-ltb}
+use Rattle.std.proofs.lemmas.Bool.{eqb-true, eqb-false, le-leb, lt-leb, lt-ltb}
 use Rattle.std.proofs.lemmas.Grind.{common_steps}
-use Rattle.std.proofs.lemmas.List.{get_or-set_same, get_or-set_other, set-get_or, set-set}
+use Rattle.std.proofs.lemmas.List.{get_or-set_same, get_or-set_other, set-set}
 use Rattle.std.proofs.lemmas.List.Sums.{count_by-le-length, sum_by-set}
 use Rattle.linger_clock.specs.declared.Deadline.{Deadline}
 use Rattle.linger_clock.specs.Deadlines.{Deadlines, IsClock, is_due, until_of, without}
@@ -55,13 +55,6 @@ is_none_of (Some m) e = let never : Some m ≡ None = e in absurd (cc)
 
 pub mark_absent : (marks : List (Option ℕ)) (clock : Deadlines) (at : ℕ) → AreTimed marks clock → get_or marks at None ≡ None → IsNone (until_of at clock.pairs)
 mark_absent marks clock at k none = is_none_of (until_of at clock.pairs) (k.waits at ∙ none)
-
-pub mark_put : (marks : List (Option ℕ)) (clock : Deadlines) (at beat : ℕ) (new : Deadlines) → AreTimed marks clock → at < length marks → get_or marks at None ≡ None
-    → ChangesMoment at (Some beat) clock new → length new.pairs ≡ length clock.pairs + 1 → AreTimed (set marks at (Some beat)) new
-mark_put marks clock at beat new k less none change many =
-    let more : count_by is_some (set marks at (Some beat)) + tally (is_some (get_or marks at None)) ≡ count_by is_some marks + 1 = count_set is_some marks at (Some beat) less in
-    let not : tally (is_some (get_or marks at None)) ≡ 0 = ap (λ (o : Option ℕ). tally (is_some o)) none in
-    timed_with marks clock at (Some beat) new k less change (omega (arith, many, k.as_many, more, not))
 
 -- one less
 
@@ -145,14 +138,6 @@ pub noted_anew : (marks : List (Option ℕ)) (at mark beat : ℕ) → get_or mar
 noted_anew marks at mark beat there less =
     let first : earlier_mark (Some mark) beat ≡ beat = ap (λ (b : Bool). cond b beat mark) (lt-ltb beat mark less) in
     set-set marks at None (Some beat) ∙ ap (λ (m : ℕ). set marks at (Some m)) (sym (ap (λ (o : Option ℕ). earlier_mark o beat) there ∙ first))
-
-pub noted_before : (marks : List (Option ℕ)) (at mark beat : ℕ) → get_or marks at None ≡ Some mark → mark ≤ beat → marks ≡ set marks at (Some (earlier_mark (get_or marks at None) beat))
-noted_before marks at mark beat there low =
-    let first : earlier_mark (Some mark) beat ≡ mark = ap (λ (b : Bool). cond b beat mark) (le-ltb beat mark low) in
-    sym (set-get_or marks at None) ∙ ap (λ (o : Option ℕ). set marks at o) (there ∙ ap Some (sym (ap (λ (o : Option ℕ). earlier_mark o beat) there ∙ first)))
-
-pub noted_first : (marks : List (Option ℕ)) (at beat : ℕ) → get_or marks at None ≡ None → set marks at (Some beat) ≡ set marks at (Some (earlier_mark (get_or marks at None) beat))
-noted_first marks at beat none = ap (λ (m : ℕ). set marks at (Some m)) (sym (ap (λ (o : Option ℕ). earlier_mark o beat) none))
 
 -- reading a mark
 

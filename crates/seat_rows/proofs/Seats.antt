@@ -1,13 +1,13 @@
 -- What a user of the rows cites: of lists of seats, and of holders whom a timeout takes their seats.
 use Rattle.std.proofs.Common.{◌≡◌, ℕ, ◌+◌, ◌-◌, ◌<◌, ◌≤◌, Bool, true, false, List, [], ◌∷◌, Some, filter, refl, ap, ◌∙◌, arith, ltb}
-use Rattle.std.specs.List.{count_by, find, list_all}
+use Rattle.std.specs.List.{count_by, list_all}
 use Rattle.std.proofs.lemmas.Bool.{eqb-true, ltb-true, ltb-false, lt-ltb, le-ltb}
 use Rattle.options_machine.specs.declared.rows.Holder.{Holder}
 use Rattle.options_machine.specs.State.{is_holder}
 use Rattle.options_machine.specs.Settle.{in_time}
 use Rattle.options_machine.specs.Law.{are_in_order}
-use Rattle.options_machine.proofs.Counts.{all_found, and_left, and_right, count-cons, find_passes}
-use Rattle.seat_rows.specs.Seats.{IsSeatList, SeatList, is_heard}
+use Rattle.options_machine.proofs.Counts.{and_left, and_right, count-cons}
+use Rattle.seat_rows.specs.Seats.{IsSeatList, SeatList}
 
 -- each party has one seat at most
 
@@ -38,12 +38,6 @@ one_at_most party (g ∷ gs) e =
 pub single : (s : SeatList) (party : ℕ) → IsSeatList s → count_by (is_holder party) s.holders ≤ 1
 single s party k = one_at_most party s.holders k.in_order
 
--- a party that has one is among those of the rows
-pub found_inside : (s : SeatList) (party : ℕ) (h : Holder) → IsSeatList s → find (is_holder party) s.holders ≡ Some h → party < s.parties
-found_inside s party h k e =
-    let less : h.party < s.parties = ltb-true h.party s.parties (all_found (is_holder party) (λ (g : Holder). ltb g.party s.parties) s.holders h e k.inside) in
-    omega (arith, less, eqb-true h.party party (find_passes (is_holder party) s.holders h e))
-
 -- who is silent for a timeout was not heard after the moment that lies so far back
 
 late_cases : (now t beat : ℕ) (b : Bool) → ltb (now - t) beat ≡ b → 0 < t → t ≤ now → ltb (now - beat) t ≡ ltb (now - t) beat
@@ -57,9 +51,6 @@ filter_step p q h hs false e same rest = let also : p h ≡ false = same ∙ e i
 filter_as : (p q : Holder → Bool) (hs : List Holder) → ((h : Holder) → p h ≡ q h) → filter p hs ≡ filter q hs
 filter_as p q [] same = refl
 filter_as p q (h ∷ hs) same = filter_step p q h hs (q h) refl (same h) (filter_as p q hs same)
-
-pub timed_heard : (t now : ℕ) (hs : List Holder) → 0 < t → t ≤ now → in_time (Some t) now hs ≡ filter (is_heard (now - t)) hs
-timed_heard t now hs some back = filter_as (λ (h : Holder). ltb (now - h.beat) t) (is_heard (now - t)) hs (λ h. late_cases now t h.beat (ltb (now - t) h.beat) refl some back)
 
 kept_all : (t now : ℕ) (hs : List Holder) → now < t → filter (λ (h : Holder). ltb (now - h.beat) t) hs ≡ hs
 kept_all t now [] early = refl

@@ -2,6 +2,7 @@
 use Rattle.std.proofs.Common.{◌≡◌, ◌∙◌, ◌++◌, ◌∷◌, [], List, ℕ, Bool, true, false, ◌||◌, cond, inl, inr, length, nat_eq, nat_lt, ap, sym, refl, subst, Option, Some, None, Result, Ok, Err}
 use Rattle.std.proofs.lemmas.Grind.{flat_map-append}
 use Rattle.std.specs.List.{list_any}
+use Rattle.std.proofs.lemmas.Bool.{or_from, or_left, or_right}
 use Rattle.feature_lines.specs.declared.route.Found.{Found}
 use Rattle.feature_lines.specs.declared.route.Found.TheVariants.{Pool as At, Unknown, Expired}
 use Rattle.lic_types.specs.declared.client.Client.{Client}
@@ -50,16 +51,6 @@ faulted_append as' bs = ap (list_any is_fault) (flat_map-append _ as' bs) ∙ an
 
 silent_append : (as' bs : List Act) → silent (as' ++ bs) ≡ (silent as' || silent bs)
 silent_append as' bs = ap (list_any is_silence) (flat_map-append _ as' bs) ∙ any-append is_silence (talk_of as') (talk_of bs)
-
-or_left : (a b : Bool) → a ≡ true → (a || b) ≡ true
-or_left a b e = ap (λ x. x || b) e
-
-or_right : (a b : Bool) → b ≡ true → (a || b) ≡ true
-or_right true b e = refl
-or_right false b e = e
-
-or_both : (a b : Bool) → a ≡ false → b ≡ false → (a || b) ≡ false
-or_both a b e f = ap (λ x. x || b) e ∙ f
 
 or_after : (a b c : Bool) → a ≡ false → b ≡ c → (a || b) ≡ c
 or_after a b c e f = ap (λ x. x || b) e ∙ f
@@ -160,12 +151,12 @@ answers_shown o acts client (Ok request) new then out h = obeys_shown o acts cli
 
 goes_quiet : {o : Setup} {acts : List Act} {client : Option Client} {pending : List ℕ} → Goes o acts client pending → rings acts ≡ false
 goes_quiet opens = refl
-goes_quiet (hears {acts} piece g op) = rings_append acts (Tell (Heard piece) ∷ []) ∙ or_both (rings acts) false (goes_quiet g) refl
-goes_quiet {o} (answers {acts} {client} line rest new then g b a) = rings_append acts new ∙ or_both (rings acts) (rings new) (goes_quiet g) (answers_shown o acts client (request_of line) new then None a)
+goes_quiet (hears {acts} piece g op) = rings_append acts (Tell (Heard piece) ∷ []) ∙ or_from (rings acts) false (goes_quiet g) refl
+goes_quiet {o} (answers {acts} {client} line rest new then g b a) = rings_append acts new ∙ or_from (rings acts) (rings new) (goes_quiet g) (answers_shown o acts client (request_of line) new then None a)
 goes_quiet {o} (looks {acts} {client} new g op l) =
     let quiet : List Act = Tell Silence ∷ Hear false ∷ [] in
     rings_append (acts ++ quiet) new
-    ∙ or_both (rings (acts ++ quiet)) (rings new) (rings_append acts quiet ∙ or_both (rings acts) false (goes_quiet g) refl) (any_quiet Holding o (acts ++ quiet) client kind.Look new l)
+    ∙ or_from (rings (acts ++ quiet)) (rings new) (rings_append acts quiet ∙ or_from (rings acts) false (goes_quiet g) refl) (any_quiet Holding o (acts ++ quiet) client kind.Look new l)
 
 end_caused : (b : Bool) (n : ℕ) (acts : List Act) → rings acts ≡ false → Caused (cond b ends.End (ends.Torn n)) acts
 end_caused true n acts e = e
@@ -182,24 +173,24 @@ shown_caused ends.Stopped early late e h = absurd h
 
 ends_caused : {o : Setup} {acts : List Act} {client : Option Client} {end : SessionEnd} → Ends o acts client end → Caused end acts
 ends_caused {o} (finishes {acts} {client} line rest new then end g b a) = shown_caused end acts new (goes_quiet g) (answers_shown o acts client (request_of line) new then (Some end) a)
-ends_caused (closes {acts} {client} {pending} g op) = end_caused (nat_eq (length pending) 0) (length pending) (acts ++ Tell Ended ∷ []) (rings_append acts (Tell Ended ∷ []) ∙ or_both (rings acts) false (goes_quiet g) refl)
-ends_caused (breaks {acts} g op) = (rings_append acts (Tell ReadFault ∷ []) ∙ or_both (rings acts) false (goes_quiet g) refl, faulted_append acts (Tell ReadFault ∷ []) ∙ or_right (faulted acts) true refl)
+ends_caused (closes {acts} {client} {pending} g op) = end_caused (nat_eq (length pending) 0) (length pending) (acts ++ Tell Ended ∷ []) (rings_append acts (Tell Ended ∷ []) ∙ or_from (rings acts) false (goes_quiet g) refl)
+ends_caused (breaks {acts} g op) = (rings_append acts (Tell ReadFault ∷ []) ∙ or_from (rings acts) false (goes_quiet g) refl, faulted_append acts (Tell ReadFault ∷ []) ∙ or_right (faulted acts) true refl)
 ends_caused (overflows g op) = goes_quiet g
 ends_caused (stops {acts} g op) = (
-  rings_append acts (Tell Silence ∷ Hear true ∷ []) ∙ or_both (rings acts) false (goes_quiet g) refl,
+  rings_append acts (Tell Silence ∷ Hear true ∷ []) ∙ or_from (rings acts) false (goes_quiet g) refl,
   silent_append acts (Tell Silence ∷ Hear true ∷ []) ∙ or_right (silent acts) true refl,
   tolled_append acts (Tell Silence ∷ Hear true ∷ []) ∙ or_right (tolled acts) true refl,
 )
 
 caused_more : (end : SessionEnd) (talk back : List Act) → rings back ≡ false → Caused end talk → Caused end (talk ++ back)
-caused_more ends.Quit talk back e h = rings_append talk back ∙ or_both (rings talk) (rings back) h e
+caused_more ends.Quit talk back e h = rings_append talk back ∙ or_from (rings talk) (rings back) h e
 caused_more ends.Down talk back e h = rings_append talk back ∙ or_left (rings talk) (rings back) h
-caused_more ends.End talk back e h = rings_append talk back ∙ or_both (rings talk) (rings back) h e
-caused_more (ends.Torn n) talk back e h = rings_append talk back ∙ or_both (rings talk) (rings back) h e
-caused_more ends.LineTooLong talk back e h = rings_append talk back ∙ or_both (rings talk) (rings back) h e
-caused_more ends.LinkFault talk back e h = (rings_append talk back ∙ or_both (rings talk) (rings back) h.0 e, faulted_append talk back ∙ or_left (faulted talk) (faulted back) h.1)
+caused_more ends.End talk back e h = rings_append talk back ∙ or_from (rings talk) (rings back) h e
+caused_more (ends.Torn n) talk back e h = rings_append talk back ∙ or_from (rings talk) (rings back) h e
+caused_more ends.LineTooLong talk back e h = rings_append talk back ∙ or_from (rings talk) (rings back) h e
+caused_more ends.LinkFault talk back e h = (rings_append talk back ∙ or_from (rings talk) (rings back) h.0 e, faulted_append talk back ∙ or_left (faulted talk) (faulted back) h.1)
 caused_more ends.Stopped talk back e h = (
-  rings_append talk back ∙ or_both (rings talk) (rings back) h.0 e,
+  rings_append talk back ∙ or_from (rings talk) (rings back) h.0 e,
   silent_append talk back ∙ or_left (silent talk) (silent back) h.1,
   tolled_append talk back ∙ or_left (tolled talk) (tolled back) h.2,
 )

@@ -1,8 +1,9 @@
 -- Counts, talks and peals, one after another.
-use Rattle.std.proofs.Common.{◌≡◌, ℕ, ◌<◌, ◌≤◌, ◌∙◌, ◌++◌, ◌∷◌, [], List, Bool, true, false, ◌||◌, ◌⊎◌, sym, refl, arith, subst, inl, inr, append_assoc}
+use Rattle.std.proofs.Common.{◌≡◌, ℕ, ◌<◌, ◌≤◌, ◌∙◌, ◌++◌, ◌∷◌, [], List, Bool, true, false, ◌||◌, sym, refl, arith, subst, inl, inr, append_assoc}
 use Rattle.std.proofs.lemmas.Grind.{flat_map-append}
 use Rattle.std.proofs.lemmas.List.{append-nil}
 use Rattle.std.specs.List.{list_any, flat_map}
+use Rattle.std.proofs.lemmas.Bool.{or_parts, or_cases}
 use Rattle.session_outside.specs.Talk.{Counted, Event, Follows, HasRisen}
 use Rattle.session.specs.Acts.{Peal}
 use Rattle.session.specs.Did.{Belled, Linked, answer_in, is_fault, is_ring, is_silence, is_toll}
@@ -19,14 +20,6 @@ counted_none x = record { never_falls = omega arith; rises = λ e. cc; stands = 
 pub counted_still : (x y : ℕ) → y ≡ x → Counted false x y
 counted_still x y e = record { never_falls = omega arith; rises = λ e. cc; stands = λ f. e }
 
-or_true : (a b : Bool) → (a || b) ≡ true → (a ≡ true) ⊎ (b ≡ true)
-or_true true b e = inl refl
-or_true false b e = inr e
-
-or_false : (a b : Bool) → (a || b) ≡ false → (a ≡ false) × (b ≡ false)
-or_false true b e = absurd cc
-or_false false b e = (refl, e)
-
 rises_left : (x y z : ℕ) → HasRisen x y → y ≤ z → HasRisen x z
 rises_left x y z h k small = let r : x < y = h (omega arith) in omega arith
 
@@ -36,8 +29,8 @@ rises_right x y z h k small = let r : y < z = h small in omega arith
 pub counted_then : (a b : Bool) (x y z : ℕ) → Counted a x y → Counted b y z → Counted (a || b) x z
 counted_then a b x y z h k = record {
   never_falls = omega (arith, h.never_falls, k.never_falls);
-  rises = λ e. elim (or_true a b e) [ inl p ↦ rises_left x y z (h.rises p) k.never_falls | inr p ↦ rises_right x y z (k.rises p) h.never_falls ];
-  stands = λ e. let both = or_false a b e in k.stands both.1 ∙ h.stands both.0;
+  rises = λ e. elim (or_cases a b e) [ inl p ↦ rises_left x y z (h.rises p) k.never_falls | inr p ↦ rises_right x y z (k.rises p) h.never_falls ];
+  stands = λ e. let both = or_parts a b e in k.stands both.1 ∙ h.stands both.0;
 }
 
 pub any-append : {X : Type 0} (p : X → Bool) (xs ys : List X) → list_any p (xs ++ ys) ≡ (list_any p xs || list_any p ys)

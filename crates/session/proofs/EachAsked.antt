@@ -1,8 +1,8 @@
 -- Asking several desks, one after another.
-use Rattle.std.proofs.Common.{◌≡◌, ℕ, ◌+◌, ◌<◌, ◌∙◌, ◌++◌, ◌∷◌, [], List, Bool, true, false, cond, ◌||◌, length, ap, sym, refl, arith, subst, get_or, add-one, eqb, inl, inr}
+use Rattle.std.proofs.Common.{◌≡◌, ℕ, ◌+◌, ◌<◌, ◌∙◌, ◌++◌, ◌∷◌, [], List, true, false, cond, length, ap, sym, refl, arith, subst, get_or, add-one, eqb, inl, inr}
 use Rattle.std.proofs.lemmas.List.{append-nil, get_or_default}
 use Rattle.std.proofs.lemmas.Grind.{flat_map-append}
-use Rattle.std.proofs.lemmas.Bool.{ne_eqb}
+use Rattle.std.proofs.lemmas.Bool.{ne_eqb, or_parts}
 use Rattle.std.proofs.lemmas.Bool.Decides.{eqb_tells}
 use Rattle.counter.specs.Account.{Account, Asking}
 use Rattle.lic_types.specs.declared.client.Client.{Client}
@@ -80,12 +80,8 @@ idle_passed {C} account whom what i xs here h keeping quit j c below =
       | inr p ↦ (let ne = p.1 in h keeping quit j c (omega arith))
     ]
 
-both_false : (a b : Bool) → (a || b) ≡ false → (a ≡ false) × (b ≡ false)
-both_false true b e = absurd cc
-both_false false b e = (refl, e)
-
 -- a counter that isn't meant among those that keep a place is idle
 pub not_kept : {C : Type 0} (account : C → Account) (whom : Whom) (cs : List C) (i : ℕ) (d e : C) → i < length cs → whom ≡ Keeping → Rattle.session.specs.Asks.is_meant_at whom (account (get_or cs i d)) ≡ false → IsIdle (account (get_or cs i e))
 not_kept {C} account whom cs i d e within keeping h =
     let k : Rattle.session.specs.Asks.is_meant_at Keeping (account (get_or cs i d)) ≡ false = ap (λ (w : Whom). Rattle.session.specs.Asks.is_meant_at w (account (get_or cs i d))) (sym keeping) ∙ h in
-    subst (λ (x : C). IsIdle (account x)) (get_or_default cs i d e within) (both_false _ _ k)
+    subst (λ (x : C). IsIdle (account x)) (get_or_default cs i d e within) (or_parts _ _ k)

@@ -1,6 +1,7 @@
 -- Before HELLO nothing is asked.
-use Rattle.std.proofs.Common.{◌≡◌, ℕ, ◌<◌, ◌∙◌, ◌++◌, ◌∷◌, [], List, Bool, false, ◌||◌, arith, inl, inr, length, map, ap, sym, refl, subst, Option, Some, None, Result, Ok, Err}
+use Rattle.std.proofs.Common.{◌≡◌, ℕ, ◌<◌, ◌∙◌, ◌++◌, ◌∷◌, [], List, false, arith, inl, inr, length, map, ap, sym, refl, subst, Option, Some, None, Result, Ok, Err}
 use Rattle.std.proofs.lemmas.Grind.{flat_map-append}
+use Rattle.std.proofs.lemmas.Bool.{or_from}
 use Rattle.counter.specs.Account.{Account, Asking}
 use Rattle.lic_types.specs.declared.client.Client.{Client}
 use Rattle.line_protocol.specs.Requests.{request_of}
@@ -93,16 +94,13 @@ some_of : {C : Type 0} (cs : List C) (j : ℕ) → j < length cs → C
 some_of [] j below = absurd (omega arith)
 some_of (c ∷ cs) j below = c
 
-both_none : (a b : Bool) → a ≡ false → b ≡ false → (a || b) ≡ false
-both_none a b e f = ap (λ x. x || b) e ∙ f
-
 -- where the counters are idle, the session keeps nothing
 pub keeps_nothing : {C D : Type 0} (account : C → Account) (v : View D) (o : Setup) (acts : List Act) (cs : List C) → length cs ≡ length o.pools → AreIdle account cs → Agrees account v o acts cs → KeepsNothing o acts
 keeps_nothing account v o acts cs long idle h = record {
   idle = λ j below.
       let b : j < length cs = subst (λ n. j < n) (sym long) below in
       let c = some_of cs j b in
-      sym (meant_is account v o acts cs Keeping j c h b) ∙ both_none _ _ (idle j c b).0 (idle j c b).1;
+      sym (meant_is account v o acts cs Keeping j c h b) ∙ or_from _ _ (idle j c b).0 (idle j c b).1;
 }
 
 -- at the end all counters are idle

@@ -4,6 +4,7 @@ use Rattle.std.specs.Option.{is_none}
 use Rattle.std.proofs.lemmas.Bool.{eq-eqb}
 use Rattle.std.proofs.lemmas.Bool.Decides.{nat_tests}
 use Rattle.std.proofs.lemmas.List.{append_cancel_right, length-map, map-append}
+use Rattle.std.proofs.Math.Bool.{or-true, or-false}
 use Rattle.lic_types.specs.declared.client.Client.{Client}
 use Rattle.options_machine.specs.declared.reply.Entry.{Entry}
 use Rattle.options_machine.specs.declared.reply.Kind.{Kind}
@@ -70,20 +71,12 @@ more_seats : (n : ℕ) (b : Bool) → replicate {A = ℕ} (n + cond b 1 0) 0 ≡
 more_seats n true = more_one n
 more_seats n false = ap (λ (m : ℕ). replicate {A = ℕ} m 0) (add-zero n) ∙ sym (append-nil (replicate {A = ℕ} n 0))
 
-or_any : (b : Bool) → (b || true) ≡ true
-or_any true = refl
-or_any false = refl
-
-or_none : (b : Bool) → (b || false) ≡ b
-or_none true = refl
-or_none false = refl
-
 some_left : (n : ℕ) → nat_lt 0 (n + 1) ≡ true
 some_left n = grind (arith, nat_tests)
 
 pub granted_more : (n : ℕ) (b : Bool) → (nat_lt 0 n || b) ≡ nat_lt 0 (n + cond b 1 0)
-granted_more n true = or_any (nat_lt 0 n) ∙ sym (some_left n)
-granted_more n false = or_none (nat_lt 0 n) ∙ ap (nat_lt 0) (sym (add-zero n))
+granted_more n true = or-true (nat_lt 0 n) ∙ sym (some_left n)
+granted_more n false = or-false (nat_lt 0 n) ∙ ap (nat_lt 0) (sym (add-zero n))
 
 same_last : (n : ℕ) → last_from (Some 0) (replicate {A = ℕ} n 0) ≡ Some 0
 same_last zero = refl

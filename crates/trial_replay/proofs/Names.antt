@@ -32,7 +32,3 @@ pub numbered_name : (letter number : ℕ) → is_name_byte letter ≡ true → n
 numbered_name letter number is small =
     let digits : length (decimal number) ≤ 10 = length-decimal-le 10 number (omega arith) (omega arith) (omega arith) in
     short_word (letter ∷ decimal number) (omega arith) (omega arith) (and_from _ _ is (decimal_bytes number (omega arith)))
-
--- a letter alone
-pub lettered_name : (letter : ℕ) → is_name_byte letter ≡ true → name_of (letter ∷ []) ≡ Ok (letter ∷ [])
-lettered_name letter is = short_word (letter ∷ []) (omega arith) (omega arith) (and_from _ _ is refl)

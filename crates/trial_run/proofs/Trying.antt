@@ -2,7 +2,8 @@
 use Rattle.std.proofs.Common.{◌≡◌, ◌∙◌, ℕ, suc, zero, ◌+◌, ◌<◌, ◌++◌, ◌∷◌, [], List, All, Vec, Global, length, map, get_or, append_assoc, ap, refl, sym, subst, arith}
 use Rattle.std.proofs.lemmas.List.{append-nil, get_or-map, get_or_default, length-map, map-append}
 use Rattle.daemon_outside.specs.Sites.{IsNew, Kept}
-use Rattle.daemon_run.proofs.Joining.{IsNewcomer, choose, joins, the_first}
+use Rattle.daemon_run.proofs.Joining.{IsNewcomer, choose, joins}
+use Rattle.stat_board.specs.Fronts.{the_first}
 use Rattle.daemon_run.specs.Gives.{AreKept, IsKept, passes_of}
 use Rattle.daemon_run.specs.declared.worker.Worker.{Worker}
 use Rattle.door_worker.specs.Visits.{IsSession, Visit, acts_in}

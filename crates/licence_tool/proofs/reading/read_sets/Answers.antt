@@ -1,12 +1,12 @@
 use Rattle.std.proofs.Common.{◌+◌, ◌≡◌, ◌∙◌, map, string_bytes, refl, arith, length}
 use Rattle.std.proofs.lemmas.Result.{err_from_is_err_and}
+use Rattle.std.proofs.lemmas.List.{length-map}
 use Rattle.licence_tool.specs.Outcome.{position_of_set}
 use Rattle.licence_tool.proofs.Asking.{further, further_forgotten, further_position, further_read, further_refused, none_asked}
 use Rattle.licence_tool.proofs.Checks.{wider}
 use Rattle.licence_tool.proofs.Hearing.{refusal_wider}
 use Rattle.licence_tool.proofs.Runs.{rises}
 use Rattle.licence_tool.proofs.Sets.{told_one_more, within_map, all_heard, one_more, one_refused, sets_without_memory}
-use Rattle.licence_tool.proofs.WordLists.{same_length}
 use Rattle.licence_tool.proofs.reading.read_sets.Goals as goal
 
 pub returns-in_err-push-clause-says : goal.returns-in_err-push-clause-says
@@ -59,7 +59,7 @@ loop-name-preserved g c = record {
 pub returns-clause-says : goal.returns-clause-says
 returns-clause-says g c =
     all_heard (λ v. v.items) _ _ c.loop-name.name-index c.args.options c.loop-name.sets c.loop-name.invariant.heard
-    (omega (arith, same_length (λ n. g.F.Files.contents c.args.files.now (string_bytes n)) c.args.names.now, c.loop-name-test.false))
+    (omega (arith, length-map c.args.names.now (λ n. g.F.Files.contents c.args.files.now (string_bytes n)), c.loop-name-test.false))
 
 pub returns-in_err-push-clause-asked : goal.returns-in_err-push-clause-asked
 returns-in_err-push-clause-asked g c =
@@ -89,4 +89,4 @@ returns-in_err-further-clause-asked g c =
 pub returns-clause-asked : goal.returns-clause-asked
 returns-clause-asked g c =
     further_read (map string_bytes c.args.names.now) _ _ _ _ c.loop-name.name-index
-    (omega (arith, same_length string_bytes c.args.names.now, c.loop-name-test.false)) c.loop-name.invariant.asked
+    (omega (arith, length-map c.args.names.now string_bytes, c.loop-name-test.false)) c.loop-name.invariant.asked

@@ -2,7 +2,7 @@ use Rattle.std.proofs.Common.{◌∙◌, ◌<◌, List, ap, get_or, length, subs
 use Rattle.std.proofs.lemmas.List.{length-map}
 use Rattle.feature_lines.specs.declared.pool.Pool.{Pool}
 use Rattle.policy.specs.Pools.{rules_of}
-use Rattle.office_rows.proofs.Readying.{the_first}
+use Rattle.stat_board.specs.Fronts.{the_first}
 use Rattle.office_rows.proofs.tests.office_of.Goals as goal
 
 pub returns-clause-sets : goal.returns-clause-sets

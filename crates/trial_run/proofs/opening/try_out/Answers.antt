@@ -1,5 +1,5 @@
 use Rattle.std.proofs.Common.{◌≡◌, ◌∙◌, List, Vec, Global, get_or, length, map, sym, subst, arith}
-use Rattle.daemon_run.proofs.Joining.{the_first}
+use Rattle.stat_board.specs.Fronts.{the_first}
 use Rattle.feature_desk.specs.Sitters.{DeskView, Sitter, account_of, newcomer}
 use Rattle.licence_office.specs.Offices.{AreDealt}
 use Rattle.session.specs.Session.{setup_of}

@@ -1,6 +1,6 @@
 use Rattle.std.proofs.Common.{◌∙◌, ◌<◌, List, ap, length, subst, sym, arith}
 use Rattle.feature_lines.specs.declared.pool.Pool.{Pool}
-use Rattle.daemon_run.proofs.Joining.{the_first}
+use Rattle.stat_board.specs.Fronts.{the_first}
 use Rattle.office_rows.proofs.tests.daemons.office_of.Goals as goal
 
 pub returns-clause-sets : goal.returns-clause-sets
