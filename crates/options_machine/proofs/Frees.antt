@@ -4,9 +4,9 @@ use Rattle.std.specs.Option.{is_none}
 use Rattle.std.proofs.lemmas.Bool.{ltb-true}
 use Rattle.lic_types.specs.declared.client.Client.{Client}
 use Rattle.options_machine.specs.declared.decision.Decision.{Decision}
-use Rattle.options_machine.specs.declared.decision.Decision.TheVariants.{Barred, Retake, Capped, Grant, Full}
+use Rattle.options_machine.specs.declared.decision.Decision.TheVariants.{Retake, Grant}
 use Rattle.options_machine.specs.declared.effect.Effect.{Effect}
-use Rattle.options_machine.specs.declared.effect.Effect.TheVariants.{Nothing, Tell, Release, Linger, Unqueue, Seat, Reseat, Join}
+use Rattle.options_machine.specs.declared.effect.Effect.TheVariants.{Tell, Release, Linger, Seat, Reseat}
 use Rattle.options_machine.specs.declared.reply.Charge.{Charge}
 use Rattle.options_machine.specs.declared.reply.Charge.TheVariants.{Reserve, Open}
 use Rattle.options_machine.specs.declared.reply.Entry.{Entry}
@@ -46,11 +46,9 @@ free_reseated r s party client charge told e k = omega (arith, charges-reseated 
 -- settling
 
 free_offered : (r : Rules) (s : State) (q : Queuer) (d : Decision) → decide r s q.client ≡ d → IsFree r s → IsFree r (with_offer s q d)
-free_offered r s q (Barred line) e k = k
 free_offered r s q (Retake charge) e k = free_reseated r s q.party q.client charge false e k
-free_offered r s q (Capped line) e k = k
 free_offered r s q (Grant charge) e k = free_seated r s q.party q.client charge false e k
-free_offered r s q Full e k = k
+free_offered r s q other e k = k
 
 free_serve : (r : Rules) (s : State) (qs : List Queuer) → IsFree r s → IsFree r (serve r s qs)
 free_serve r s [] k = k
@@ -65,14 +63,12 @@ free_settle r s moment k =
 -- an effect
 
 free_apply : (r : Rules) (s : State) (party : ℕ) (client : Client) (x : Effect) → Fits r s party client x → IsFree r s → IsFree r (apply s party client x)
-free_apply r s party client Nothing f k = k
 free_apply r s party client Tell f k = omega (arith, charges-told s party Open, k)
 free_apply r s party client Release f k = omega (arith, charges-released s party Open, k)
 free_apply r s party client (Linger l) (h, e, who, same, room) k = omega (arith, charges-left s party h l Open e same, k)
-free_apply r s party client Unqueue f k = k
 free_apply r s party client (Seat charge) (none, e) k = free_seated r s party client charge true e k
 free_apply r s party client (Reseat charge) (none, e) k = free_reseated r s party client charge true e k
-free_apply r s party client Join f k = k
+free_apply r s party client other f k = k
 
 -- one step that asks for no rule set keeps it, and so does a run
 

@@ -1,12 +1,11 @@
-use Rattle.std.proofs.Common.{◌≡◌, ℕ, ◌+◌, ◌-◌, ◌<◌, ◌≤◌, Bool, true, false, List, [], ◌∷◌, ◌++◌, refl, ◌∙◌, arith, ltb, eqb, not, Option, None, Some, map, filter}
+use Rattle.std.proofs.Common.{◌≡◌, ℕ, ◌-◌, ◌<◌, Bool, true, false, List, [], ◌∷◌, ◌++◌, refl, ◌∙◌, arith, ltb, not, Option, None, Some, map, filter}
 use Rattle.std.specs.List.{count_by, list_all}
-use Rattle.std.proofs.lemmas.Bool.{eqb-false, eq-eqb, ltb-true, ltb-false, lt-ltb}
 use Rattle.lic_types.specs.declared.client.Client.{Client}
 use Rattle.options_machine.specs.declared.decision.Decision.{Decision}
-use Rattle.options_machine.specs.declared.decision.Decision.TheVariants.{Barred, Retake, Capped, Grant, Full}
+use Rattle.options_machine.specs.declared.decision.Decision.TheVariants.{Retake, Grant}
 use Rattle.options_machine.specs.declared.decision.Place.TheVariants.{Away}
 use Rattle.options_machine.specs.declared.effect.Effect.{Effect}
-use Rattle.options_machine.specs.declared.effect.Effect.TheVariants.{Nothing, Tell, Release, Linger, Unqueue, Seat, Reseat, Join}
+use Rattle.options_machine.specs.declared.effect.Effect.TheVariants.{Tell, Release, Linger, Seat, Reseat}
 use Rattle.options_machine.specs.declared.reply.Charge.{Charge}
 use Rattle.options_machine.specs.declared.reply.Entry.{Entry}
 use Rattle.options_machine.specs.declared.reply.Task.{Task}
@@ -17,16 +16,17 @@ use Rattle.options_machine.specs.Rules.{IsSound, Rules}
 use Rattle.options_machine.specs.State.{State, in_force, is_holder, is_queuer, opening, set_at}
 use Rattle.options_machine.specs.Decide.{decide}
 use Rattle.options_machine.specs.Settle.{in_time, later_moment, serve, settle, timely, with_holder, with_offer, with_seat}
-use Rattle.options_machine.specs.Apply.{Fits, IsPlace, apply, told_if, with_told, without_holder}
+use Rattle.options_machine.specs.Apply.{Fits, IsPlace, apply, told_if, with_told}
 use Rattle.options_machine.specs.Step.{holders_anew, next_charge, step_of_task, task}
 use Rattle.options_machine.specs.Run.{IsRun, RunsFrom, after, after_entry, after_from}
 use Rattle.options_machine.specs.Law.{AreSets, are_in_order}
 use Rattle.options_machine.specs.Kept.{IsKept}
-use Rattle.options_machine.proofs.Counts.{and_left, and_right, count-cons, count_none}
+use Rattle.options_machine.proofs.Counts.{count-cons, count_none}
 use Rattle.options_machine.proofs.Keeps.{Keeps, keeps_offered, keeps_timely}
-use Rattle.options_machine.proofs.Steps.{IsKeptBy, effect_at, fits_at, kept_step}
+use Rattle.options_machine.proofs.Steps.{told_party, IsKeptBy, effect_at, fits_at, kept_step}
 use Rattle.options_machine.proofs.Owns.{all_filter, all_with}
 use Rattle.options_machine.proofs.Runs.{opening_kept}
+use Rattle.std.proofs.lemmas.Bool.Decides.{nat_tests}
 
 -- whether all holders are of parties above this one
 abbrev are_above : ℕ → List Holder → Bool
@@ -34,20 +34,13 @@ are_above p hs = list_all (λ (g : Holder). ltb p g.party) hs
 
 lower : (low p : ℕ) (hs : List Holder) → low < p → are_above p hs ≡ true → are_above low hs ≡ true
 lower low p [] h e = refl
-lower low p (g ∷ gs) h e =
-    let high : p < g.party = ltb-true p g.party (and_left (ltb p g.party) (are_above p gs) e) in
-    rw (lt-ltb low g.party (omega (arith, h, high)), lower low p gs h (and_right (ltb p g.party) (are_above p gs) e)) refl
+lower low p (g ∷ gs) h e = grind (arith, nat_tests, lower low p gs h)
 
 -- without some holders
 
-filter_step : (q : Holder → Bool) (h : Holder) (hs : List Holder) (b : Bool) → q h ≡ b → are_above h.party hs ≡ true → are_in_order (filter q hs) ≡ true → are_in_order (filter q (h ∷ hs)) ≡ true
-filter_step q h hs true e all rest = rw (e, all_filter q (λ (g : Holder). ltb h.party g.party) hs all, rest) refl
-filter_step q h hs false e all rest = rw e rest
-
 order_filter : (q : Holder → Bool) (hs : List Holder) → are_in_order hs ≡ true → are_in_order (filter q hs) ≡ true
 order_filter q [] e = refl
-order_filter q (h ∷ hs) e =
-    filter_step q h hs (q h) refl (and_left (are_above h.party hs) (are_in_order hs) e) (order_filter q hs (and_right (are_above h.party hs) (are_in_order hs) e))
+order_filter q (h ∷ hs) e = grind (arith, all_filter q (λ (g : Holder). ltb h.party g.party) hs, order_filter q hs)
 
 order_timed : (timeout : Option ℕ) (now : ℕ) (hs : List Holder) → are_in_order hs ≡ true → are_in_order (in_time timeout now hs) ≡ true
 order_timed None now hs e = e
@@ -55,41 +48,20 @@ order_timed (Some t) now hs e = order_filter (λ (h : Holder). ltb (now - h.beat
 
 -- with one more holder, of a party that has no seat
 
-not_here : (h g : Holder) (gs : List Holder) (b : Bool) → eqb g.party h.party ≡ b → count_by (is_holder h.party) (g ∷ gs) ≡ 0 → (g.party ≡ h.party → ⊥) × (count_by (is_holder h.party) gs ≡ 0)
-not_here h g gs true e none =
-    let one : count_by (is_holder h.party) (g ∷ gs) ≡ 1 + count_by (is_holder h.party) gs = count-cons (is_holder h.party) g gs ∙ rw e refl in
-    absurd (omega (arith, one, none))
-not_here h g gs false e none =
-    (eqb-false g.party h.party e, omega (arith, none, count-cons (is_holder h.party) g gs))
-
-with_step : (h g : Holder) (gs : List Holder) (b : Bool) → ltb h.party g.party ≡ b → (g.party ≡ h.party → ⊥) → are_above g.party gs ≡ true → are_in_order gs ≡ true → are_in_order (with_holder h gs) ≡ true
-    → are_in_order (with_holder h (g ∷ gs)) ≡ true
-with_step h g gs true e other above rest more = rw (e, e, lower h.party g.party gs (ltb-true h.party g.party e) above, above, rest) refl
-with_step h g gs false e other above rest more =
-    let low : g.party ≤ h.party = ltb-false h.party g.party e in
-    let below : g.party < h.party = omega (arith, low, other) in
-    rw (e, all_with (λ (x : Holder). ltb g.party x.party) h gs (lt-ltb g.party h.party below) above, more) refl
-
 order_with : (h : Holder) (hs : List Holder) → count_by (is_holder h.party) hs ≡ 0 → are_in_order hs ≡ true → are_in_order (with_holder h hs) ≡ true
 order_with h [] none e = refl
 order_with h (g ∷ gs) none e =
-    let (other, others) = not_here h g gs (eqb g.party h.party) refl none in
-    with_step h g gs (ltb h.party g.party) refl other (and_left (are_above g.party gs) (are_in_order gs) e) (and_right (are_above g.party gs) (are_in_order gs) e)
-    (order_with h gs others (and_right (are_above g.party gs) (are_in_order gs) e))
+    grind (arith, nat_tests, count-cons (is_holder h.party) g gs, lower h.party g.party gs, all_with (λ (x : Holder). ltb g.party x.party) h gs, order_with h gs)
 
 -- settling
 
 first_waits : (r : Rules) (s : State) (q : Queuer) (qs : List Queuer) → Keeps r s (q ∷ qs) → count_by (is_holder q.party) s.holders ≡ 0
-first_waits r s q qs k =
-    let one : count_by (is_queuer q.party) (q ∷ qs) ≡ 1 + count_by (is_queuer q.party) qs = count-cons (is_queuer q.party) q qs ∙ rw (eq-eqb q.party q.party refl) refl in
-    omega (arith, one, k.single q.party)
+first_waits r s q qs k = grind (arith, nat_tests, count-cons (is_queuer q.party) q qs, k.single q.party)
 
 order_offered : (r : Rules) (s : State) (q : Queuer) (qs : List Queuer) (d : Decision) → Keeps r s (q ∷ qs) → are_in_order s.holders ≡ true → are_in_order (with_offer s q d).holders ≡ true
-order_offered r s q qs (Barred line) k e = e
 order_offered r s q qs (Retake charge) k e = order_with (record { party = q.party; client = q.client; charge = charge; beat = s.now; told = false }) s.holders (first_waits r s q qs k) e
-order_offered r s q qs (Capped line) k e = e
 order_offered r s q qs (Grant charge) k e = order_with (record { party = q.party; client = q.client; charge = charge; beat = s.now; told = false }) s.holders (first_waits r s q qs k) e
-order_offered r s q qs Full k e = e
+order_offered r s q qs other k e = e
 
 order_serve : (r : Rules) (s : State) (qs : List Queuer) → IsSound r → Keeps r s qs → are_in_order s.holders ≡ true → are_in_order (serve r s qs).holders ≡ true
 order_serve r s [] g k e = e
@@ -110,10 +82,6 @@ order_map : (f : Holder → Holder) (hs : List Holder) → ((h : Holder) → (f 
 order_map f [] same = refl
 order_map f (h ∷ hs) same = rw (same h, above_map h.party f hs same, order_map f hs same) refl
 
-told_party : (b : Bool) (now : ℕ) (h : Holder) → (told_if b now h).party ≡ h.party
-told_party true now h = refl
-told_party false now h = refl
-
 order_told : (s : State) (party : ℕ) → are_in_order s.holders ≡ true → are_in_order (with_told s party).holders ≡ true
 order_told s party e = order_map (λ (h : Holder). told_if (is_holder party h) s.now h) s.holders (λ h. told_party (is_holder party h) s.now h) ∙ e
 
@@ -127,22 +95,17 @@ order_anew r given (h ∷ hs) = rw (above_anew h.party r (given ++ next_charge r
 
 -- an effect
 
-order_released : (s : State) (party : ℕ) → are_in_order s.holders ≡ true → are_in_order (without_holder s party).holders ≡ true
-order_released s party e = order_filter (λ (h : Holder). not (is_holder party h)) s.holders e
-
 order_seated : (r : Rules) (s : State) (party : ℕ) (client : Client) (charge : Charge) → IsPlace s party Away → are_in_order s.holders ≡ true → are_in_order (with_seat s party client charge true).holders ≡ true
 order_seated r s party client charge none e =
     order_with (record { party = party; client = client; charge = charge; beat = s.now; told = true }) s.holders (count_none (is_holder party) s.holders none.0) e
 
 order_apply : (r : Rules) (s : State) (party : ℕ) (client : Client) (x : Effect) → Fits r s party client x → are_in_order s.holders ≡ true → are_in_order (apply s party client x).holders ≡ true
-order_apply r s party client Nothing f e = e
 order_apply r s party client Tell f e = order_told s party e
-order_apply r s party client Release f e = order_released s party e
-order_apply r s party client (Linger l) f e = order_released s party e
-order_apply r s party client Unqueue f e = e
+order_apply r s party client Release f e = order_filter (λ (h : Holder). not (is_holder party h)) s.holders e
+order_apply r s party client (Linger l) f e = order_filter (λ (h : Holder). not (is_holder party h)) s.holders e
 order_apply r s party client (Seat charge) (none, d) e = order_seated r s party client charge none e
 order_apply r s party client (Reseat charge) (none, d) e = order_seated r s party client charge none e
-order_apply r s party client Join f e = e
+order_apply r s party client other f e = e
 
 order_done : (sets : List Rules) (s : State) (party : ℕ) (client : Client) (t : Task) → are_in_order s.holders ≡ true → are_in_order (step_of_task sets s party client t).1.holders ≡ true
 order_done sets s party client (Answer asked) e = order_apply (in_force sets s) s party client (effect_at sets s party client asked) (fits_at sets s party client asked) e

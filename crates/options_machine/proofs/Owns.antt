@@ -1,10 +1,10 @@
-use Rattle.std.proofs.Common.{◌≡◌, ℕ, ◌+◌, ◌-◌, ◌≤◌, Bool, true, false, cond, List, [], ◌∷◌, ◌++◌, refl, ap, sym, ◌∙◌, arith, subst, ltb, eqb, not, ◌||◌, ◌&&◌, Option, None, Some, map, filter}
+use Rattle.std.proofs.Common.{◌≡◌, ℕ, ◌-◌, ◌≤◌, Bool, true, false, List, [], ◌∷◌, ◌++◌, refl, ap, ◌∙◌, arith, ltb, not, ◌||◌, ◌&&◌, Option, None, Some, map, filter}
 use Rattle.std.specs.List.{count_by, find, list_all}
-use Rattle.std.proofs.lemmas.Bool.{eqb-true}
+use Rattle.std.proofs.lemmas.Bool.Decides.{nat_tests}
 use Rattle.std.proofs.lemmas.List.Folds.{list_all-append}
 use Rattle.lic_types.specs.declared.client.Client.{Client}
 use Rattle.options_machine.specs.declared.decision.Decision.{Decision}
-use Rattle.options_machine.specs.declared.decision.Decision.TheVariants.{Barred, Retake, Capped, Grant, Full}
+use Rattle.options_machine.specs.declared.decision.Decision.TheVariants.{Retake, Grant}
 use Rattle.options_machine.specs.declared.decision.Place.{Place}
 use Rattle.options_machine.specs.declared.decision.Place.TheVariants.{Told, Untold, Waiting, Away}
 use Rattle.options_machine.specs.declared.effect.Effect.{Effect}
@@ -25,25 +25,17 @@ use Rattle.options_machine.proofs.Counts.{and_left, and_right, count-cons, count
 
 -- what passes everywhere passes in what is left
 
-all_filter_step : {X : Type 0} (q p : X → Bool) (x : X) (xs : List X) (b : Bool) → q x ≡ b → (list_all p xs ≡ true → list_all p (filter q xs) ≡ true) → list_all p (x ∷ xs) ≡ true → list_all p (filter q (x ∷ xs)) ≡ true
-all_filter_step q p x xs true e f h = rw (e, and_left (p x) (list_all p xs) h, f (and_right (p x) (list_all p xs) h)) refl
-all_filter_step q p x xs false e f h = rw e (f (and_right (p x) (list_all p xs) h))
-
 pub all_filter : {X : Type 0} (q p : X → Bool) (xs : List X) → list_all p xs ≡ true → list_all p (filter q xs) ≡ true
 all_filter q p [] h = refl
-all_filter q p (x ∷ xs) h = all_filter_step q p x xs (q x) refl (all_filter q p xs) h
+all_filter q p (x ∷ xs) h = grind (arith, all_filter q p xs)
 
 pub all_timed : (p : Holder → Bool) (timeout : Option ℕ) (now : ℕ) (hs : List Holder) → list_all p hs ≡ true → list_all p (in_time timeout now hs) ≡ true
 all_timed p None now hs h = h
 all_timed p (Some t) now hs h = all_filter (λ (x : Holder). ltb (now - x.beat) t) p hs h
 
-all_with_step : (p : Holder → Bool) (h g : Holder) (gs : List Holder) (b : Bool) → ltb h.party g.party ≡ b → p h ≡ true → (list_all p gs ≡ true → list_all p (with_holder h gs) ≡ true) → list_all p (g ∷ gs) ≡ true → list_all p (with_holder h (g ∷ gs)) ≡ true
-all_with_step p h g gs true e one f all = rw (e, one) all
-all_with_step p h g gs false e one f all = rw (e, and_left (p g) (list_all p gs) all, f (and_right (p g) (list_all p gs) all)) refl
-
 pub all_with : (p : Holder → Bool) (h : Holder) (hs : List Holder) → p h ≡ true → list_all p hs ≡ true → list_all p (with_holder h hs) ≡ true
 all_with p h [] one all = rw one refl
-all_with p h (g ∷ gs) one all = all_with_step p h g gs (ltb h.party g.party) refl one (all_with p h gs one) all
+all_with p h (g ∷ gs) one all = grind (arith, all_with p h gs)
 
 all_push : {X : Type 0} (p : X → Bool) (xs : List X) (y : X) → list_all p xs ≡ true → p y ≡ true → list_all p (xs ++ y ∷ []) ≡ true
 all_push p xs y all one = list_all-append p xs (y ∷ []) ∙ rw (all, one) refl
@@ -51,11 +43,9 @@ all_push p xs y all one = list_all-append p xs (y ∷ []) ∙ rw (all, one) refl
 -- settling
 
 agrees_offered : (o : Option Reply) (party : ℕ) (s : State) (q : Queuer) (d : Decision) → (not (is_queuer party q) || says_queueing o) ≡ true → Agrees o s party → Agrees o (with_offer s q d) party
-agrees_offered o party s q (Barred line) one a = record { holders = a.holders; queue = all_push (λ (x : Queuer). not (is_queuer party x) || says_queueing o) s.queue q a.queue one }
 agrees_offered o party s q (Retake charge) one a = record { holders = all_with (λ (h : Holder). not (is_holder party h) || fits_holder o h) (record { party = q.party; client = q.client; charge = charge; beat = s.now; told = false }) s.holders one a.holders; queue = a.queue }
-agrees_offered o party s q (Capped line) one a = record { holders = a.holders; queue = all_push (λ (x : Queuer). not (is_queuer party x) || says_queueing o) s.queue q a.queue one }
 agrees_offered o party s q (Grant charge) one a = record { holders = all_with (λ (h : Holder). not (is_holder party h) || fits_holder o h) (record { party = q.party; client = q.client; charge = charge; beat = s.now; told = false }) s.holders one a.holders; queue = a.queue }
-agrees_offered o party s q Full one a = record { holders = a.holders; queue = all_push (λ (x : Queuer). not (is_queuer party x) || says_queueing o) s.queue q a.queue one }
+agrees_offered o party s q other one a = record { holders = a.holders; queue = all_push (λ (x : Queuer). not (is_queuer party x) || says_queueing o) s.queue q a.queue one }
 
 agrees_serve : (o : Option Reply) (party : ℕ) (r : Rules) (s : State) (qs : List Queuer) → list_all (λ (q : Queuer). not (is_queuer party q) || says_queueing o) qs ≡ true → Agrees o s party → Agrees o (serve r s qs) party
 agrees_serve o party r s [] all a = a
@@ -79,20 +69,10 @@ agrees_anew o party r s a = record { holders = anew_same o party r [] s.holders 
 
 -- an effect on another party
 
-not_of : (p : ℕ) (h : Holder) (b c : Bool) → eqb h.party p ≡ b → (h.party ≡ p → ⊥) → (not (eqb h.party p) || c) ≡ true
-not_of p h true c e other = absurd (other (eqb-true h.party p e))
-not_of p h false c e other = rw e refl
-
-told_other : (o : Option Reply) (party p now : ℕ) (h : Holder) (b : Bool) → is_holder party h ≡ b → (party ≡ p → ⊥) → (not (is_holder p h) || fits_holder o h) ≡ true → (not (is_holder p (told_if b now h)) || fits_holder o (told_if b now h)) ≡ true
-told_other o party p now h true e other one = not_of p h (eqb h.party p) (fits_holder o (told_if true now h)) refl (λ same. other (sym (eqb-true h.party party e) ∙ same))
-told_other o party p now h false e other one = one
-
 all_told : (o : Option Reply) (party p now : ℕ) (hs : List Holder) → (party ≡ p → ⊥) → list_all (λ (h : Holder). not (is_holder p h) || fits_holder o h) hs ≡ true
     → list_all (λ (h : Holder). not (is_holder p h) || fits_holder o h) (map (λ (h : Holder). told_if (is_holder party h) now h) hs) ≡ true
 all_told o party p now [] other all = refl
-all_told o party p now (h ∷ hs) other all =
-    let test : Holder → Bool = λ (x : Holder). not (is_holder p x) || fits_holder o x in
-    rw (told_other o party p now h (is_holder party h) refl other (and_left (test h) (list_all test hs) all), all_told o party p now hs other (and_right (test h) (list_all test hs) all)) refl
+all_told o party p now (h ∷ hs) other all = grind (arith, nat_tests, all_told o party p now hs other)
 
 agrees_told : (o : Option Reply) (party p : ℕ) (s : State) → (party ≡ p → ⊥) → Agrees o s p → Agrees o (with_told s party) p
 agrees_told o party p s other a = record { holders = all_told o party p s.now s.holders other a.holders; queue = a.queue }
@@ -106,14 +86,10 @@ agrees_unqueued o party p s a = record { holders = a.holders; queue = all_filter
 agrees_seated : (o : Option Reply) (p : ℕ) (s : State) (party : ℕ) (client : Client) (charge : Charge) (told : Bool) → (party ≡ p → ⊥) → Agrees o s p → Agrees o (with_seat s party client charge told) p
 agrees_seated o p s party client charge told other a =
     let h : Holder = record { party = party; client = client; charge = charge; beat = s.now; told = told } in
-    record { holders = all_with (λ (x : Holder). not (is_holder p x) || fits_holder o x) h s.holders (not_of p h (eqb party p) (fits_holder o h) refl other) a.holders; queue = a.queue }
-
-not_queuer : (p party : ℕ) (b c : Bool) → eqb party p ≡ b → (party ≡ p → ⊥) → (not (eqb party p) || c) ≡ true
-not_queuer p party true c e other = absurd (other (eqb-true party p e))
-not_queuer p party false c e other = rw e refl
+    record { holders = all_with (λ (x : Holder). not (is_holder p x) || fits_holder o x) h s.holders (grind (arith, nat_tests)) a.holders; queue = a.queue }
 
 agrees_joined : (o : Option Reply) (p : ℕ) (s : State) (q : Queuer) → (q.party ≡ p → ⊥) → Agrees o s p → Agrees o (with_queuer s q) p
-agrees_joined o p s q other a = record { holders = a.holders; queue = all_push (λ (x : Queuer). not (is_queuer p x) || says_queueing o) s.queue q a.queue (not_queuer p q.party (eqb q.party p) (says_queueing o) refl other) }
+agrees_joined o p s q other a = record { holders = a.holders; queue = all_push (λ (x : Queuer). not (is_queuer p x) || says_queueing o) s.queue q a.queue (grind (arith, nat_tests)) }
 
 pub other_apply : (o : Option Reply) (p : ℕ) (s : State) (party : ℕ) (client : Client) (x : Effect) → (party ≡ p → ⊥) → Agrees o s p → Agrees o (apply s party client x) p
 other_apply o p s party client Nothing other a = a
@@ -128,41 +104,18 @@ other_apply o p s party client Join other a = agrees_joined o p s (record { part
 
 -- the party's own answer: where the state after it is read off by place
 
-none_all_step : {X : Type 0} (t ok : X → Bool) (x : X) (xs : List X) (b : Bool) → t x ≡ b → count_by t (x ∷ xs) ≡ 0 → (count_by t xs ≡ 0 → list_all (λ (y : X). not (t y) || ok y) xs ≡ true) → list_all (λ (y : X). not (t y) || ok y) (x ∷ xs) ≡ true
-none_all_step t ok x xs true b e f = let one : count_by t (x ∷ xs) ≡ 1 + count_by t xs = count-cons t x xs ∙ rw b refl in absurd (omega (arith, one, e))
-none_all_step t ok x xs false b e f = let none : count_by t (x ∷ xs) ≡ 0 + count_by t xs = count-cons t x xs ∙ rw b refl in rw (b, f (omega (arith, none, e))) refl
-
 none_all : {X : Type 0} (t ok : X → Bool) (xs : List X) → count_by t xs ≡ 0 → list_all (λ (x : X). not (t x) || ok x) xs ≡ true
 none_all t ok [] e = refl
-none_all t ok (x ∷ xs) e = none_all_step t ok x xs (t x) refl e (none_all t ok xs)
-
-only_step : {X : Type 0} (t ok : X → Bool) (x : X) (xs : List X) (y : X) (b : Bool) → t x ≡ b → find t (x ∷ xs) ≡ Some y → count_by t (x ∷ xs) ≤ 1 → ok y ≡ true
-    → (find t xs ≡ Some y → count_by t xs ≤ 1 → list_all (λ (z : X). not (t z) || ok z) xs ≡ true) → list_all (λ (z : X). not (t z) || ok z) (x ∷ xs) ≡ true
-only_step t ok x xs y true b e one good f =
-    let found : Some x ≡ Some y = rw b at e in
-    let same : x ≡ y = cc in
-    let more : count_by t (x ∷ xs) ≡ 1 + count_by t xs = count-cons t x xs ∙ rw b refl in
-    let here : ok x ≡ true = subst (λ (z : _). ok z ≡ true) (sym same) good in
-    rw (b, here, none_all t ok xs (omega (arith, more, one))) refl
-only_step t ok x xs y false b e one good f =
-    let more : count_by t (x ∷ xs) ≡ 0 + count_by t xs = count-cons t x xs ∙ rw b refl in
-    rw (b, f (rw b at e) (omega (arith, more, one))) refl
+none_all t ok (x ∷ xs) e = grind (arith, count-cons t x xs, none_all t ok xs)
 
 -- where one is found and there is one at most, all that pass are it
 only_all : {X : Type 0} (t ok : X → Bool) (xs : List X) (y : X) → find t xs ≡ Some y → count_by t xs ≤ 1 → ok y ≡ true → list_all (λ (z : X). not (t z) || ok z) xs ≡ true
 only_all t ok [] y e one good = refl
-only_all t ok (x ∷ xs) y e one good = only_step t ok x xs y (t x) refl e one good (λ e' one'. only_all t ok xs y e' one' good)
-
-one_first : {b : Bool} → b ≡ true → (n : ℕ) → cond b 1 0 + n ≡ 1 + n
-one_first e n = rw e refl
-
-found_counts : {X : Type 0} (t : X → Bool) (x : X) (xs : List X) (y : X) (b : Bool) → t x ≡ b → find t (x ∷ xs) ≡ Some y → (find t xs ≡ Some y → 1 ≤ count_by t xs) → 1 ≤ count_by t (x ∷ xs)
-found_counts t x xs y true b e f = omega (arith, count-cons t x xs ∙ one_first b (count_by t xs))
-found_counts t x xs y false b e f = omega (arith, f (rw b at e), count-cons t x xs)
+only_all t ok (x ∷ xs) y e one good = grind (arith, count-cons t x xs, none_all t ok xs, only_all t ok xs y)
 
 pub found_one : {X : Type 0} (t : X → Bool) (xs : List X) (y : X) → find t xs ≡ Some y → 1 ≤ count_by t xs
-found_one t [] y e = let never : None ≡ Some y = e in cc
-found_one t (x ∷ xs) y e = found_counts t x xs y (t x) refl e (found_one t xs y)
+found_one t [] y e = grind arith
+found_one t (x ∷ xs) y e = grind (arith, count-cons t x xs, found_one t xs y)
 
 -- a reply that says what the party has agrees with it
 pub agree_place : (x : Reply) (s : State) (p : ℕ) (at : Place) → IsPlace s p at → is_of_holding x ≡ is_told at → is_of_queueing x ≡ is_pending at → entries s p ≤ 1 → Agrees (Some x) s p

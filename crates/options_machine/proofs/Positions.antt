@@ -1,7 +1,7 @@
-use Rattle.std.proofs.Common.{◌≡◌, ℕ, ◌+◌, ◌<◌, ◌≤◌, Bool, true, false, List, [], ◌∷◌, ◌++◌, length, refl, ap, sym, ◌∙◌, arith, ltb, ◌↔◌, ◌⊎◌, inl, inr, None, Some}
+use Rattle.std.proofs.Common.{◌≡◌, ℕ, ◌+◌, ◌<◌, ◌≤◌, Bool, true, false, List, [], ◌∷◌, ◌++◌, length, refl, ap, sym, ◌∙◌, arith, ◌↔◌, ◌⊎◌, inl, inr, None, Some}
 use Rattle.std.specs.List.{find, position, position_or_len}
 use Rattle.std.specs.Option.{option_map}
-use Rattle.std.proofs.lemmas.Bool.{eq-eqb, lt-ltb, le-ltb}
+use Rattle.std.proofs.lemmas.Bool.{eq-eqb}
 use Rattle.lic_types.specs.declared.client.Client.{Client}
 use Rattle.options_machine.specs.declared.decision.Decision.{Decision}
 use Rattle.options_machine.specs.declared.decision.Decision.TheVariants.{Barred, Full}
@@ -23,7 +23,7 @@ use Rattle.options_machine.specs.State.{State, entries, in_force, is_holder, is_
 use Rattle.options_machine.specs.Decide.{decide}
 use Rattle.options_machine.specs.Settle.{with_queuer}
 use Rattle.options_machine.specs.Apply.{IsPlace, apply}
-use Rattle.options_machine.specs.Step.{answer_by_decision, answer_of, answer_of_return, entry_left, lingers, position_of, standing_of, step, step_of_task, task, to_away, to_told, to_untold, to_waiting}
+use Rattle.options_machine.specs.Step.{answer_by_decision, answer_of, answer_of_return, entry_left, lingers, position_of, standing_of, step, step_of_task, task}
 use Rattle.options_machine.specs.Run.{IsRun, after}
 use Rattle.options_machine.specs.Law.{AreSets}
 use Rattle.options_machine.specs.Replies.{asks_such, state_found, is_about_itself, is_of_itself, is_waiting, one_more, position_in_queue, reply_to}
@@ -32,40 +32,29 @@ use Rattle.options_machine.proofs.Runs.{kept_run, opening_kept}
 use Rattle.options_machine.proofs.Sayings.{none_of_count, place_after, place_applied, place_joined}
 use Rattle.options_machine.proofs.Steps.{IsKeptBy, effect_at, fits_at, kept_apply, kept_settled, place_is}
 use Rattle.options_machine.specs.Kept.{IsKept}
+use Rattle.std.proofs.lemmas.Bool.Decides.{nat_tests}
+use Rattle.std.proofs.lemmas.Grind.{common_steps}
 
 -- the first place that passes
 
-place_of_found_step : {X : Type 0} (p : X → Bool) (x : X) (xs : List X) (y : X) (b : Bool) → p x ≡ b → find p (x ∷ xs) ≡ Some y → (find p xs ≡ Some y → position_or_len p xs < length xs) → position_or_len p (x ∷ xs) < length (x ∷ xs)
-place_of_found_step p x xs y true e f rest = rw e (omega arith)
-place_of_found_step p x xs y false e f rest = let here : position_or_len p xs < length xs = rest (rw e at f) in rw e (omega (arith, here))
-
 place_of_found : {X : Type 0} (p : X → Bool) (xs : List X) (y : X) → find p xs ≡ Some y → position_or_len p xs < length xs
-place_of_found p [] y e = let never : None ≡ Some y = e in absurd (cc)
-place_of_found p (x ∷ xs) y e = place_of_found_step p x xs y (p x) refl e (place_of_found p xs y)
+place_of_found p [] y e = grind arith
+place_of_found p (x ∷ xs) y e = grind (arith, place_of_found p xs y)
 
 position_of_found : {X : Type 0} (p : X → Bool) (xs : List X) (y : X) → find p xs ≡ Some y → position p xs ≡ Some (position_or_len p xs)
-position_of_found p xs y e = let inside : ltb (position_or_len p xs) (length xs) ≡ true = lt-ltb _ _ (place_of_found p xs y e) in rw inside refl
-
-end_of_none_step : {X : Type 0} (p : X → Bool) (x : X) (xs : List X) (b : Bool) → p x ≡ b → find p (x ∷ xs) ≡ None → (find p xs ≡ None → position_or_len p xs ≡ length xs) → position_or_len p (x ∷ xs) ≡ length (x ∷ xs)
-end_of_none_step p x xs true e f rest = let never : Some x ≡ None = rw e at f in cc
-end_of_none_step p x xs false e f rest = let here : position_or_len p xs ≡ length xs = rest (rw e at f) in rw e (omega (arith, here))
+position_of_found p xs y e = grind (arith, nat_tests, place_of_found p xs y e)
 
 -- where none passes it is the end
 end_of_none : {X : Type 0} (p : X → Bool) (xs : List X) → find p xs ≡ None → position_or_len p xs ≡ length xs
 end_of_none p [] e = refl
-end_of_none p (x ∷ xs) e = end_of_none_step p x xs (p x) refl e (end_of_none p xs)
+end_of_none p (x ∷ xs) e = grind (arith, end_of_none p xs)
 
 position_of_none : {X : Type 0} (p : X → Bool) (xs : List X) → find p xs ≡ None → position p xs ≡ None
-position_of_none p xs e = let outside : ltb (position_or_len p xs) (length xs) ≡ false = le-ltb _ _ (omega (arith, end_of_none p xs e)) in rw outside refl
+position_of_none p xs e = grind (arith, nat_tests, end_of_none p xs e)
 
 -- one more at the end, of which the first passes
-place_of_last_step : {X : Type 0} (p : X → Bool) (x : X) (xs : List X) (y : X) (b : Bool) → p x ≡ b → find p (x ∷ xs) ≡ None → (find p xs ≡ None → position_or_len p (xs ++ y ∷ []) ≡ length xs) → position_or_len p ((x ∷ xs) ++ y ∷ []) ≡ length (x ∷ xs)
-place_of_last_step p x xs y true e f rest = let never : Some x ≡ None = rw e at f in cc
-place_of_last_step p x xs y false e f rest = let here : position_or_len p (xs ++ y ∷ []) ≡ length xs = rest (rw e at f) in rw e (omega (arith, here))
-
 place_of_last : {X : Type 0} (p : X → Bool) (xs : List X) (y : X) → p y ≡ true → find p xs ≡ None → position_or_len p (xs ++ y ∷ []) ≡ length xs
-place_of_last p [] y one e = rw one refl
-place_of_last p (x ∷ xs) y one e = place_of_last_step p x xs y (p x) refl e (place_of_last p xs y one)
+place_of_last p xs y one e = grind (arith, common_steps, end_of_none p xs e)
 
 -- a party that doesn't wait has no position
 
@@ -87,29 +76,12 @@ Tells s party client at a =
     (((n : ℕ) → a.0 ≡ reply.Queued n → ⊥) × (is_waiting (place_after s party client at a.1) ≡ false))
     ⊎ ((n : ℕ) × (a.0 ≡ reply.Queued n) × (position_in_queue (apply s party client a.1) party ≡ Some n))
 
-tells_given_back : (r : Rules) (s : State) (party : ℕ) (client : Client) (h : Holder) (at : Place) (b : Bool) → lingers r s ≡ b → Tells s party client at (answer_of_return (entry_left r s h))
-tells_given_back r s party client h at true e = rw e (inl (λ n f. cc, refl))
-tells_given_back r s party client h at false e = rw e (inl (λ n f. cc, refl))
-
-tells_told : (r : Rules) (s : State) (party : ℕ) (client : Client) (h : Holder) (asked : Ask) → Tells s party client (Told h) (to_told r s h asked)
-tells_told r s party client h ask.GiveBack = tells_given_back r s party client h (Told h) (lingers r s) refl
-tells_told r s party client h other = inl (λ n f. cc, refl)
-
-tells_untold : (r : Rules) (s : State) (party : ℕ) (client : Client) (h : Holder) (asked : Ask) → Tells s party client (Untold h) (to_untold r s h asked)
-tells_untold r s party client h ask.GiveBack = inl (λ n f. cc, refl)
-tells_untold r s party client h other = inl (λ n f. cc, refl)
-
 waits_here : (s : State) (party : ℕ) (q : Queuer) → find (is_queuer party) s.queue ≡ Some q → position_in_queue s party ≡ Some (position_of s party)
 waits_here s party q e = ap (option_map one_more) (position_of_found (is_queuer party) s.queue q e)
 
 tells_standing : (s : State) (party : ℕ) (client : Client) (q : Queuer) (d : Decision) → find (is_queuer party) s.queue ≡ Some q → Tells s party client (Waiting q) (standing_of s party d)
 tells_standing s party client q (Barred line) e = inl (λ n f. cc, refl)
 tells_standing s party client q other e = inr (position_of s party, refl, waits_here s party q e)
-
-tells_waiting : (r : Rules) (s : State) (party : ℕ) (client : Client) (q : Queuer) (asked : Ask) → is_of_itself asked ≡ true → find (is_queuer party) s.queue ≡ Some q → Tells s party client (Waiting q) (to_waiting r s party q.client asked)
-tells_waiting r s party client q ask.GiveBack about e = inl (λ n f. cc, refl)
-tells_waiting r s party client q ask.Count about e = let never : false ≡ true = about in absurd (cc)
-tells_waiting r s party client q other about e = tells_standing s party client q (decide r s q.client) e
 
 joins_here : (s : State) (party : ℕ) (client : Client) → IsPlace s party Away → position_in_queue (with_queuer s (record { party = party; client = client })) party ≡ Some (length s.queue + 1)
 joins_here s party client (f, e) =
@@ -122,15 +94,20 @@ tells_decided r s party client true Full e = inr (length s.queue + 1, refl, join
 tells_decided r s party client false Full e = inl (λ n f. cc, refl)
 tells_decided r s party client may_wait other e = inl (λ n f. cc, refl)
 
-tells_away : (r : Rules) (s : State) (party : ℕ) (client : Client) (asked : Ask) → IsPlace s party Away → Tells s party client Away (to_away r s client asked)
-tells_away r s party client (ask.Seat may_wait) e = tells_decided r s party client may_wait (decide r s client) e
-tells_away r s party client other e = inl (λ n f. cc, refl)
+tells_given_back : (r : Rules) (s : State) (party : ℕ) (client : Client) (h : Holder) (at : Place) (b : Bool) → lingers r s ≡ b → Tells s party client at (answer_of_return (entry_left r s h))
+tells_given_back r s party client h at true e = rw e (inl (λ n f. cc, refl))
+tells_given_back r s party client h at false e = rw e (inl (λ n f. cc, refl))
 
 tells_after : (r : Rules) (s : State) (party : ℕ) (client : Client) (asked : Ask) (at : Place) → is_of_itself asked ≡ true → IsPlace s party at → Tells s party client at (answer_of r s party client asked at)
-tells_after r s party client asked (Told h) about p = tells_told r s party client h asked
-tells_after r s party client asked (Untold h) about p = tells_untold r s party client h asked
-tells_after r s party client asked (Waiting q) about (e, f) = tells_waiting r s party client q asked about f
-tells_after r s party client asked Away about p = tells_away r s party client asked p
+tells_after r s party client ask.GiveBack (Told h) about p = tells_given_back r s party client h (Told h) (lingers r s) refl
+tells_after r s party client ask.GiveBack (Untold h) about p = inl (λ n f. cc, refl)
+tells_after r s party client asked (Told h) about p = inl (λ n f. cc, refl)
+tells_after r s party client asked (Untold h) about p = inl (λ n f. cc, refl)
+tells_after r s party client ask.GiveBack (Waiting q) about p = inl (λ n f. cc, refl)
+tells_after r s party client ask.Count (Waiting q) about p = let never : false ≡ true = about in absurd (cc)
+tells_after r s party client asked (Waiting q) about (e, f) = tells_standing s party client q (decide r s q.client) f
+tells_after r s party client (ask.Seat may_wait) Away about p = tells_decided r s party client may_wait (decide r s client) p
+tells_after r s party client asked Away about p = inl (λ n f. cc, refl)
 
 -- of the step
 
@@ -142,14 +119,10 @@ told_at r s party client at a n p one (inl (never, w)) =
 told_at r s party client at a n p one (inr (m, same, here)) =
     (λ e. let both : reply.Queued m ≡ reply.Queued n = sym same ∙ e in here ∙ cc, λ e. let both : Some m ≡ Some n = sym here ∙ e in same ∙ cc)
 
-counted_not : (r : Rules) (s : State) (party : ℕ) (client : Client) (at : Place) (n : ℕ) → (answer_of r s party client ask.Count at).0 ≡ reply.Queued n → ⊥
-counted_not r s party client (Told h) n e = cc
-counted_not r s party client other n e = cc
-
 done_tells : (sets : List Rules) (count : ℕ) (s : State) (party : ℕ) (client : Client) (t : Task) (n : ℕ) → AreSets sets count → IsKeptBy sets s
     → ((step_of_task sets s party client t).0 ≡ reply.Queued n) ↔ ((asks_such is_of_itself t ≡ true) × (position_in_queue (step_of_task sets s party client t).1 party ≡ Some n))
-done_tells sets count s party client (Answer ask.Count) n g k = (λ e. absurd (counted_not (in_force sets s) s party client (place s party) n e), λ c. let never : false ≡ true = c.0 in absurd (cc))
-done_tells sets count s party client (Reread m) n g k = (λ e. let never : reply.Reread m ≡ reply.Queued n = e in absurd (cc), λ c. let never : false ≡ true = c.0 in absurd (cc))
+done_tells sets count s party client (Answer ask.Count) n g k = grind arith
+done_tells sets count s party client (Reread m) n g k = grind arith
 done_tells sets count s party client (Answer asked) n g k =
     let r : Rules = in_force sets s in
     let x : Effect = effect_at sets s party client asked in

@@ -1,10 +1,8 @@
-use Rattle.std.proofs.Common.{◌≡◌, ℕ, ◌+◌, ◌≤◌, Bool, true, false, List, [], ◌∷◌, ◌++◌, refl, ap, sym, ◌∙◌, arith, ltb, None, Some, map}
+use Rattle.std.proofs.Common.{◌≡◌, ℕ, ◌≤◌, Bool, true, List, [], ◌∷◌, ◌++◌, refl, ap, sym, ◌∙◌, arith, None, Some, map, eqb}
 use Rattle.std.specs.List.{count_by, find}
 use Rattle.std.proofs.lemmas.Bool.{eq-eqb}
 use Rattle.std.proofs.lemmas.List.Folds.{find-append}
 use Rattle.lic_types.specs.declared.client.Client.{Client}
-use Rattle.options_machine.specs.declared.decision.Decision.{Decision}
-use Rattle.options_machine.specs.declared.decision.Decision.TheVariants.{Barred, Full}
 use Rattle.options_machine.specs.declared.decision.Place.{Place}
 use Rattle.options_machine.specs.declared.decision.Place.TheVariants.{Told, Untold, Waiting, Away}
 use Rattle.options_machine.specs.declared.effect.Effect.{Effect}
@@ -20,10 +18,9 @@ use Rattle.options_machine.specs.declared.rows.Holder.{Holder}
 use Rattle.options_machine.specs.declared.rows.Queuer.{Queuer}
 use Rattle.options_machine.specs.Rules.{Rules}
 use Rattle.options_machine.specs.State.{State, entries, in_force, is_holder, is_queuer, opening, place}
-use Rattle.options_machine.specs.Decide.{decide}
 use Rattle.options_machine.specs.Settle.{with_holder}
 use Rattle.options_machine.specs.Apply.{Fits, IsPlace, apply, told_if, with_told, without_holder, without_queuer}
-use Rattle.options_machine.specs.Step.{answer_by_decision, answer_of, answer_of_return, entry_left, lingers, set_asked, set_of, standing_of, step, step_of_task, task, to_away, to_told, to_untold, to_waiting}
+use Rattle.options_machine.specs.Step.{answer_of, set_asked, set_of, step, step_of_task, task}
 use Rattle.options_machine.specs.Run.{IsRun, after}
 use Rattle.options_machine.specs.Law.{AreSets}
 use Rattle.options_machine.specs.Own.{is_of_holding, is_of_queueing}
@@ -33,38 +30,22 @@ use Rattle.options_machine.proofs.Owns.{found_one}
 use Rattle.options_machine.proofs.Runs.{kept_run, opening_kept}
 use Rattle.options_machine.proofs.Steps.{IsKeptBy, effect_at, fits_at, kept_settled, place_is, told_party}
 
-find_map_step : {X : Type 0} (t : X → Bool) (f : X → X) (x : X) (xs : List X) (y : X) (b : Bool) → t x ≡ b → t (f x) ≡ t x → find t (x ∷ xs) ≡ Some y → (find t xs ≡ Some y → find t (map f xs) ≡ Some (f y)) → find t (map f (x ∷ xs)) ≡ Some (f y)
-find_map_step t f x xs y true b same e g =
-    let found : Some x ≡ Some y = rw b at e in
-    let one : x ≡ y = cc in
-    rw (same, b) (ap (λ (z : _). Some (f z)) one)
-find_map_step t f x xs y false b same e g = rw (same, b) (g (rw b at e))
-
 find_map : {X : Type 0} (t : X → Bool) (f : X → X) (xs : List X) (y : X) → ((x : X) → t (f x) ≡ t x) → find t xs ≡ Some y → find t (map f xs) ≡ Some (f y)
-find_map t f [] y same e = let never : None ≡ Some y = e in cc
-find_map t f (x ∷ xs) y same e = find_map_step t f x xs y (t x) refl (same x) e (find_map t f xs y same)
-
-with_step : (t : Holder → Bool) (h g : Holder) (gs : List Holder) (b c : Bool) → ltb h.party g.party ≡ b → t g ≡ c → t h ≡ true → find t (g ∷ gs) ≡ None → (find t gs ≡ None → find t (with_holder h gs) ≡ Some h) → find t (with_holder h (g ∷ gs)) ≡ Some h
-with_step t h g gs true c e k one none f = rw (e, one) refl
-with_step t h g gs false true e k one none f = let never : Some g ≡ None = rw k at none in cc
-with_step t h g gs false false e k one none f = rw (e, k) (f (rw k at none))
+find_map t f [] y same e = grind arith
+find_map t f (x ∷ xs) y same e = grind (arith, same x, find_map t f xs y same)
 
 pub find_with : (t : Holder → Bool) (h : Holder) (hs : List Holder) → t h ≡ true → find t hs ≡ None → find t (with_holder h hs) ≡ Some h
 find_with t h [] one none = rw one refl
-find_with t h (g ∷ gs) one none = with_step t h g gs (ltb h.party g.party) (t g) refl refl one none (find_with t h gs one)
-
-none_of_count_step : {X : Type 0} (p : X → Bool) (x : X) (xs : List X) (b : Bool) → p x ≡ b → count_by p (x ∷ xs) ≡ 0 → (count_by p xs ≡ 0 → find p xs ≡ None) → find p (x ∷ xs) ≡ None
-none_of_count_step p x xs true e f rest = let one : count_by p (x ∷ xs) ≡ 1 + count_by p xs = count-cons p x xs ∙ rw e refl in absurd (omega (arith, f, one))
-none_of_count_step p x xs false e f rest = let same : count_by p (x ∷ xs) ≡ 0 + count_by p xs = count-cons p x xs ∙ rw e refl in rw e (rest (omega (arith, f, same)))
+find_with t h (g ∷ gs) one none = grind (arith, find_with t h gs)
 
 pub none_of_count : {X : Type 0} (p : X → Bool) (xs : List X) → count_by p xs ≡ 0 → find p xs ≡ None
 none_of_count p [] e = refl
-none_of_count p (x ∷ xs) e = none_of_count_step p x xs (p x) refl e (none_of_count p xs)
+none_of_count p (x ∷ xs) e = grind (arith, count-cons p x xs, none_of_count p xs)
 
 -- the party is told
 found_told : (s : State) (party : ℕ) (h : Holder) → find (is_holder party) s.holders ≡ Some h → find (is_holder party) (with_told s party).holders ≡ Some (told_if true s.now h)
 found_told s party h e =
-    find_map (is_holder party) (λ (x : Holder). told_if (is_holder party x) s.now x) s.holders h (λ x. told_party (is_holder party x) s.now party x) e
+    find_map (is_holder party) (λ (x : Holder). told_if (is_holder party x) s.now x) s.holders h (λ x. ap (λ y. eqb y party) (told_party (is_holder party x) s.now x)) e
     ∙ ap (λ (b : Bool). Some (told_if b s.now h)) (find_passes (is_holder party) s.holders h e)
 
 -- a party without entries is away
@@ -118,48 +99,14 @@ place_applied r s party client at Join p one (none, d) = place_joined s party _ 
 abbrev SaysAfter : State → ℕ → Client → Place → Reply × Effect → Type 0
 SaysAfter s party client at a = (is_of_holding a.0 ≡ is_told (place_after s party client at a.1)) × (is_of_queueing a.0 ≡ is_pending (place_after s party client at a.1))
 
-says_given_back : (r : Rules) (s : State) (party : ℕ) (client : Client) (h : Holder) (at : Place) (b : Bool) → lingers r s ≡ b → SaysAfter s party client at (answer_of_return (entry_left r s h))
-says_given_back r s party client h at true e = rw e (refl, refl)
-says_given_back r s party client h at false e = rw e (refl, refl)
-
-says_told : (r : Rules) (s : State) (party : ℕ) (client : Client) (h : Holder) (asked : Ask) → SaysAfter s party client (Told h) (to_told r s h asked)
-says_told r s party client h ask.GiveBack = says_given_back r s party client h (Told h) (lingers r s) refl
-says_told r s party client h other = (refl, refl)
-
-says_untold : (r : Rules) (s : State) (party : ℕ) (client : Client) (h : Holder) (asked : Ask) → SaysAfter s party client (Untold h) (to_untold r s h asked)
-says_untold r s party client h ask.GiveBack = (refl, refl)
-says_untold r s party client h other = (refl, refl)
-
-says_standing : (s : State) (party : ℕ) (client : Client) (q : Queuer) (d : Decision) → SaysAfter s party client (Waiting q) (standing_of s party d)
-says_standing s party client q (Barred line) = (refl, refl)
-says_standing s party client q other = (refl, refl)
-
-says_waiting : (r : Rules) (s : State) (party : ℕ) (client : Client) (q : Queuer) (asked : Ask) → SaysAfter s party client (Waiting q) (to_waiting r s party q.client asked)
-says_waiting r s party client q ask.GiveBack = (refl, refl)
-says_waiting r s party client q ask.Count = (refl, refl)
-says_waiting r s party client q other = says_standing s party client q (decide r s q.client)
-
-says_decided : (r : Rules) (s : State) (party : ℕ) (client : Client) (may_wait : Bool) (d : Decision) → SaysAfter s party client Away (answer_by_decision r s may_wait d)
-says_decided r s party client true Full = (refl, refl)
-says_decided r s party client false Full = (refl, refl)
-says_decided r s party client may_wait other = (refl, refl)
-
-says_away : (r : Rules) (s : State) (party : ℕ) (client : Client) (asked : Ask) → SaysAfter s party client Away (to_away r s client asked)
-says_away r s party client (ask.Seat may_wait) = says_decided r s party client may_wait (decide r s client)
-says_away r s party client other = (refl, refl)
-
 says_after : (r : Rules) (s : State) (party : ℕ) (client : Client) (asked : Ask) (at : Place) → SaysAfter s party client at (answer_of r s party client asked at)
-says_after r s party client asked (Told h) = says_told r s party client h asked
-says_after r s party client asked (Untold h) = says_untold r s party client h asked
-says_after r s party client asked (Waiting q) = says_waiting r s party client q asked
-says_after r s party client asked Away = says_away r s party client asked
+says_after r s party client asked (Told h) = grind arith
+says_after r s party client ask.Count other = grind arith
+says_after r s party client asked other = grind arith
 
 -- a state has one place for a party
 the_place : (s : State) (party : ℕ) (at : Place) → IsPlace s party at → place s party ≡ at
-the_place s party (Told h) (e, t) = rw (e, t) refl
-the_place s party (Untold h) (e, t) = rw (e, t) refl
-the_place s party (Waiting q) (e, f) = rw (e, f) refl
-the_place s party Away (e, f) = rw (e, f) refl
+the_place s party at e = grind arith
 
 -- the place of an answer's party after it, and that its reply says so
 pub record Says (a : Reply × State) (party : ℕ) : Type 0 where

@@ -1,10 +1,10 @@
-use Rattle.std.proofs.Common.{◌≡◌, ℕ, Bool, true, false, List, [], ◌∷◌, ◌++◌, refl, ap, ◌∙◌, arith, not, ◌||◌, filter, append_assoc, append-nil}
+use Rattle.std.proofs.lemmas.Bool.{or_parts}
+use Rattle.std.proofs.Common.{◌≡◌, ℕ, Bool, true, false, List, [], ◌∷◌, ◌++◌, refl, ap, ◌∙◌, arith, not, filter, append_assoc, append-nil}
 use Rattle.std.specs.List.{list_any}
 use Rattle.std.proofs.lemmas.List.{length-map}
 use Rattle.lic_types.specs.declared.client.Client.{Client}
 use Rattle.lic_types.specs.declared.client.RuleLine.{RuleLine}
 use Rattle.options_machine.specs.declared.decision.Decision.{Decision}
-use Rattle.options_machine.specs.declared.decision.Decision.TheVariants.{Barred, Retake, Capped, Grant, Full}
 use Rattle.options_machine.specs.declared.effect.Effect.{Effect}
 use Rattle.options_machine.specs.declared.effect.Effect.TheVariants.{Nothing, Tell, Release, Linger, Unqueue, Seat, Reseat, Join}
 use Rattle.options_machine.specs.declared.rows.Holder.{Holder}
@@ -23,20 +23,12 @@ use Rattle.options_machine.proofs.Steps.{charges-told}
 -- a queue that nobody of leaves is as it was
 
 stays_step : (s : State) (q : Queuer) (d : Decision) → is_seat d ≡ false → with_offer s q d ≡ with_queuer s q
-stays_step s q (Barred line) e = refl
-stays_step s q (Retake charge) e = let never : true ≡ false = e in absurd (cc)
-stays_step s q (Capped line) e = refl
-stays_step s q (Grant charge) e = let never : true ≡ false = e in absurd (cc)
-stays_step s q Full e = refl
-
-or_none : (a b : Bool) → (a || b) ≡ false → (a ≡ false) × (b ≡ false)
-or_none true b e = let never : true ≡ false = e in absurd (cc)
-or_none false b e = (refl, e)
+stays_step s q d e = grind arith
 
 serve_none : (r : Rules) (s : State) (front qs : List Queuer) → list_any (λ (q : Queuer). is_seat (decide r s q.client)) qs ≡ false → serve r (record s { queue = front }) qs ≡ record s { queue = front ++ qs }
 serve_none r s front [] e = rw append-nil refl
 serve_none r s front (q ∷ qs) e =
-    let (here, others) = or_none (is_seat (decide r s q.client)) (list_any (λ (x : Queuer). is_seat (decide r s x.client)) qs) e in
+    let (here, others) = or_parts (is_seat (decide r s q.client)) (list_any (λ (x : Queuer). is_seat (decide r s x.client)) qs) e in
     ap (λ (t : State). serve r t qs) (stays_step (record s { queue = front }) q (decide r s q.client) here)
     ∙ serve_none r s (front ++ q ∷ []) qs others
     ∙ ap (λ (xs : List Queuer). record s { queue = xs }) (append_assoc front (q ∷ []) qs)
@@ -52,8 +44,7 @@ may_free (Linger l) = true
 may_free other = false
 
 told_client : (r : Rules) (line : RuleLine) (b : Bool) (now : ℕ) (h : Holder) → applies r.groups (told_if b now h).client line ≡ applies r.groups h.client line
-told_client r line true now h = refl
-told_client r line false now h = refl
+told_client r line b now h = grind arith
 
 told_fuller : (r : Rules) (s : State) (party : ℕ) → IsFuller r s (with_told s party)
 told_fuller r s party =
@@ -65,21 +56,16 @@ told_fuller r s party =
       in_use = omega (arith, length-map s.holders f);
     }
 
-none_filter_step : {X : Type 0} (p q : X → Bool) (x : X) (xs : List X) (b : Bool) → q x ≡ b → list_any p (x ∷ xs) ≡ false → (list_any p xs ≡ false → list_any p (filter q xs) ≡ false) → list_any p (filter q (x ∷ xs)) ≡ false
-none_filter_step p q x xs true e h rest = let (here, others) = or_none (p x) (list_any p xs) h in rw (e, here) (rest others)
-none_filter_step p q x xs false e h rest = let (here, others) = or_none (p x) (list_any p xs) h in rw e (rest others)
-
 none_filter : {X : Type 0} (p q : X → Bool) (xs : List X) → list_any p xs ≡ false → list_any p (filter q xs) ≡ false
 none_filter p q [] h = refl
-none_filter p q (x ∷ xs) h = none_filter_step p q x xs (q x) refl h (none_filter p q xs)
+none_filter p q (x ∷ xs) h = grind (arith, none_filter p q xs)
 
 -- the others leave nobody waiting who could have a seat
 pub served_after : (r : Rules) (s : State) (party : ℕ) (client : Client) (x : Effect) → may_free x ≡ false → Fits r s party client x → IsServed r s → IsServed r (apply s party client x)
-served_after r s party client Nothing e f h = h
 served_after r s party client Tell e f h = still_served r s (with_told s party) s.queue (told_fuller r s party) h
-served_after r s party client Release e f h = let never : true ≡ false = e in absurd (cc)
-served_after r s party client (Linger l) e f h = let never : true ≡ false = e in absurd (cc)
 served_after r s party client Unqueue e f h = none_filter (λ (q : Queuer). is_seat (decide r s q.client)) (λ (q : Queuer). not (is_queuer party q)) s.queue h
 served_after r s party client (Seat charge) e f h = still_served r s (with_seat s party client charge true) s.queue (seated_fuller r s party client charge true) h
 served_after r s party client (Reseat charge) e (none, d) h = still_served r s (with_seat_again s party client charge true) s.queue (reseated_fuller r s party client charge true (retakes r s client charge d)) h
 served_after r s party client Join e (none, d) h = joined_served r s (record { party = party; client = client }) (ap is_seat d) h
+served_after r s party client Nothing e f h = h
+served_after r s party client other e f h = let never : true ≡ false = e in absurd (cc)

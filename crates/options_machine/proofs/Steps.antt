@@ -1,12 +1,11 @@
-use Rattle.std.proofs.Common.{◌≡◌, ℕ, ◌+◌, ◌<◌, ◌≤◌, Bool, true, false, cond, List, [], ◌∷◌, ◌++◌, length, refl, sym, ◌∙◌, arith, subst, ltb, eqb, not, ◌&&◌, Option, None, Some, map, filter, length-append, append_assoc, append-nil}
+use Rattle.std.proofs.Common.{◌≡◌, ℕ, ◌+◌, ◌<◌, ◌≤◌, Bool, true, false, cond, List, [], ◌∷◌, ◌++◌, length, refl, sym, ◌∙◌, arith, subst, ltb, eqb, not, ◌&&◌, Option, None, Some, map, filter, length-append, append_assoc, append-nil, ap}
 use Rattle.std.specs.List.{count_by, find}
 use Rattle.std.specs.Option.{option_map}
 use Rattle.std.proofs.lemmas.List.{length-map}
-use Rattle.std.proofs.lemmas.Bool.{eqb-true, ltb-true}
+use Rattle.std.proofs.lemmas.Bool.{eqb-true}
 use Rattle.lic_types.specs.declared.client.Client.{Client}
-use Rattle.lic_types.specs.declared.limits.TheConstants.{LINGER_LIMIT}
 use Rattle.options_machine.specs.declared.decision.Decision.{Decision}
-use Rattle.options_machine.specs.declared.decision.Decision.TheVariants.{Barred, Retake, Capped, Grant, Full}
+use Rattle.options_machine.specs.declared.decision.Decision.TheVariants.{Barred, Retake, Grant, Full}
 use Rattle.options_machine.specs.declared.decision.Place.{Place}
 use Rattle.options_machine.specs.declared.decision.Place.TheVariants.{Told, Untold, Waiting, Away}
 use Rattle.options_machine.specs.declared.effect.Effect.{Effect}
@@ -23,16 +22,17 @@ use Rattle.options_machine.specs.declared.rows.Holder.{Holder}
 use Rattle.options_machine.specs.declared.rows.Lingerer.{Lingerer}
 use Rattle.options_machine.specs.declared.rows.Queuer.{Queuer}
 use Rattle.options_machine.specs.Rules.{IsSound, Rules, applies, cut_of}
-use Rattle.options_machine.specs.State.{State, charges, entries, in_force, in_use, is_holder, is_queuer, place, place_of, place_of_holder, same_charge, set_at}
+use Rattle.options_machine.specs.State.{State, charges, entries, in_force, in_use, is_holder, is_queuer, place, same_charge, set_at}
 use Rattle.options_machine.specs.Decide.{decide, number_of_limit}
 use Rattle.options_machine.specs.Settle.{later_moment, serve, settle, timely, with_offer, with_queuer, with_seat, with_seat_again}
 use Rattle.options_machine.specs.Apply.{Fits, IsPlace, apply, told_if, with_lingerer, with_told, without_holder, without_queuer}
-use Rattle.options_machine.specs.Step.{answer_by_decision, answer_of, answer_of_return, entry_left, holders_anew, lingering_anew, lingers, next_charge, reserve_or_open, set_of, standing_of, step, step_of_task, task, times, to_away, to_told, to_untold, to_waiting, with_charges_anew}
+use Rattle.options_machine.specs.Step.{answer_by_decision, answer_of, answer_of_return, entry_left, holders_anew, lingering_anew, lingers, next_charge, reserve_or_open, set_of, standing_of, step, step_of_task, task, times, with_charges_anew}
 use Rattle.options_machine.specs.Run.{AsksForSet, IsBelow}
 use Rattle.options_machine.specs.Law.{AreSets}
 use Rattle.options_machine.specs.Kept.{IsKept}
-use Rattle.options_machine.proofs.Counts.{count-cons, count-push, count-filter_le, count-filter_found, length-filter_le, count-map, count_none, find_passes, and_right, all_found}
-use Rattle.options_machine.proofs.Keeps.{FitsCharge, Keeps, charges_is, grants, keeps_reseated, keeps_seated, kept_settle, retakes}
+use Rattle.options_machine.proofs.Counts.{count-cons, count-push, count-filter_le, count-filter_found, length-filter_le, count-map, count_none, find_passes, all_found}
+use Rattle.options_machine.proofs.Keeps.{FitsCharge, Keeps, charges_is, grants, keeps_reseated, keeps_seated, kept_settle, retakes, taken_in_turn}
+use Rattle.std.proofs.lemmas.Bool.Decides.{nat_tests}
 
 -- where all numbers are at most what they were, what is kept stays
 pub kept_less : (r : Rules) (s new : State) → in_use new ≤ in_use s → ((c : Charge) → charges new c ≤ charges s c) → ((p : ℕ) → entries new p ≤ entries s p) → IsKept r s → IsKept r new
@@ -45,12 +45,10 @@ kept_less r s new u c e k = record {
 -- telling a party changes no number
 
 pub told_charge : (b : Bool) (now : ℕ) (c : Charge) (h : Holder) → same_charge (told_if b now h).charge c ≡ same_charge h.charge c
-told_charge true now c h = refl
-told_charge false now c h = refl
+told_charge b now c h = grind arith
 
-pub told_party : (b : Bool) (now p : ℕ) (h : Holder) → is_holder p (told_if b now h) ≡ is_holder p h
-told_party true now p h = refl
-told_party false now p h = refl
+pub told_party : (b : Bool) (now : ℕ) (h : Holder) → (told_if b now h).party ≡ h.party
+told_party b now h = grind arith
 
 pub charges-told : (s : State) (party : ℕ) (c : Charge) → charges (with_told s party) c ≡ charges s c
 charges-told s party c =
@@ -72,7 +70,7 @@ kept_told r s party k =
     kept_less r s (with_told s party)
     (omega (arith, length-map s.holders f))
     (λ c. omega (arith, charges-told s party c))
-    (λ p. omega (arith, count-map (is_holder p) f (λ h. told_party (is_holder party h) s.now p h) s.holders))
+    (λ p. omega (arith, count-map (is_holder p) f (λ h. ap (λ y. eqb y p) (told_party (is_holder party h) s.now h)) s.holders))
     k
 
 kept_released : (r : Rules) (s : State) (party : ℕ) → IsKept r s → IsKept r (without_holder s party)
@@ -93,7 +91,7 @@ kept_unqueued r s party k =
 
 length_all : {X : Type 0} (xs : List X) → count_by (λ (x : X). true) xs ≡ length xs
 length_all [] = refl
-length_all {X} (x ∷ xs) = count-cons (λ (y : X). true) x xs ∙ omega (arith, length_all xs)
+length_all (x ∷ xs) = grind (arith, count-cons (λ (y : _). true) x xs, length_all xs)
 
 -- its seat lingers
 kept_left : (r : Rules) (s : State) (party : ℕ) (h : Holder) (l : Lingerer) → find (is_holder party) s.holders ≡ Some h → l.charge ≡ h.charge → IsKept r s → IsKept r (with_lingerer s party l)
@@ -110,16 +108,8 @@ abbrev pub HasNone : State → ℕ → Type 0
 HasNone s party = entries s party ≡ 0
 
 one_at : (r : Rules) (s : State) (party : ℕ) (client : Client) (p : ℕ) (b : Bool) → eqb party p ≡ b → HasNone s party → IsKept r s → entries s p + count_by (is_queuer p) ((record { party = party; client = client }) ∷ []) ≤ 1
-one_at r s party client p true e none k =
-    let same : party ≡ p = eqb-true party p e in
-    let q : Queuer = record { party = party; client = client } in
-    let here : entries s p ≡ 0 = subst (λ (n : ℕ). entries s n ≡ 0) same none in
-    let one : count_by (is_queuer p) (q ∷ []) ≡ 1 = count-cons (is_queuer p) q [] ∙ rw e refl in
-    omega (arith, here, one)
-one_at r s party client p false e none k =
-    let q : Queuer = record { party = party; client = client } in
-    let zero : count_by (is_queuer p) (q ∷ []) ≡ 0 = count-cons (is_queuer p) q [] ∙ rw e refl in
-    omega (arith, k.single p, zero)
+one_at r s party client p true e none k = let same : party ≡ p = eqb-true party p e in rw (← same) (grind (arith, count-cons (is_queuer party) (record { party = party; client = client }) []))
+one_at r s party client p false e none k = grind (arith, k.single p, count-cons (is_queuer p) (record { party = party; client = client }) [])
 
 keeps_one : (r : Rules) (s : State) (party : ℕ) (client : Client) → HasNone s party → IsKept r s → Keeps r s ((record { party = party; client = client }) ∷ [])
 keeps_one r s party client none k = record {
@@ -131,53 +121,21 @@ keeps_one r s party client none k = record {
 kept_of : (r : Rules) (s : State) → Keeps r s [] → IsKept r s
 kept_of r s k = record { within = k.within; reserved = k.reserved; single = λ p. omega (arith, k.single p) }
 
-seat_for : (party : ℕ) (client : Client) (p : ℕ) → cond (eqb party p) 1 0 + count_by (is_queuer p) [] ≤ count_by (is_queuer p) ((record { party = party; client = client }) ∷ [])
-seat_for party client p = let q : Queuer = record { party = party; client = client } in omega (arith, count-cons (is_queuer p) q [])
-
-holder_place : (s : State) (party : ℕ) (h : Holder) (b : Bool) → h.told ≡ b → find (is_holder party) s.holders ≡ Some h → IsPlace s party (place_of_holder b h)
-holder_place s party h true e f = (f, e)
-holder_place s party h false e f = (f, e)
-
-found_place : (s : State) (party : ℕ) (o : Option Holder) (w : Option Queuer) → find (is_holder party) s.holders ≡ o → find (is_queuer party) s.queue ≡ w → IsPlace s party (place_of o w)
-found_place s party (Some h) w e f = holder_place s party h h.told refl e
-found_place s party None (Some q) e f = (e, f)
-found_place s party None None e f = (e, f)
-
 pub place_is : (s : State) (party : ℕ) → IsPlace s party (place s party)
-place_is s party = found_place s party (find (is_holder party) s.holders) (find (is_queuer party) s.queue) refl refl
+place_is s party = grind arith
 
 pub away_has_none : (s : State) (party : ℕ) → IsPlace s party Away → HasNone s party
 away_has_none s party (e, f) = omega (arith, count_none (is_holder party) s.holders e, count_none (is_queuer party) s.queue f)
 
-pub of_party : (party : ℕ) (s : State) (h : Holder) → find (is_holder party) s.holders ≡ Some h → h.party ≡ party
-of_party party s h e = eqb-true h.party party (find_passes (is_holder party) s.holders h e)
-
 -- each effect of the table fits
 
-room_left : (r : Rules) (s : State) → lingers r s ≡ true → length s.lingering < LINGER_LIMIT
-room_left r s e = ltb-true _ _ (and_right (ltb 0 r.linger) (ltb (length s.lingering) LINGER_LIMIT) e)
-
 fits_given_back : (r : Rules) (s : State) (party : ℕ) (client : Client) (h : Holder) (b : Bool) → lingers r s ≡ b → find (is_holder party) s.holders ≡ Some h → Fits r s party client (answer_of_return (entry_left r s h)).1
-fits_given_back r s party client h true g e = rw g (h, e, refl, refl, room_left r s g)
+fits_given_back r s party client h true g e = rw g (h, e, refl, refl, grind arith)
 fits_given_back r s party client h false g e = rw g (h, e)
-
-fits_told : (r : Rules) (s : State) (party : ℕ) (client : Client) (h : Holder) (asked : Ask) → find (is_holder party) s.holders ≡ Some h → Fits r s party client (to_told r s h asked).1
-fits_told r s party client h ask.GiveBack e = fits_given_back r s party client h (lingers r s) refl e
-fits_told r s party client h ask.Beat e = (h, e)
-fits_told r s party client h other e = tt
-
-fits_untold : (r : Rules) (s : State) (party : ℕ) (client : Client) (h : Holder) (asked : Ask) → find (is_holder party) s.holders ≡ Some h → Fits r s party client (to_untold r s h asked).1
-fits_untold r s party client h ask.Count e = tt
-fits_untold r s party client h other e = (h, e)
 
 fits_standing : (r : Rules) (s : State) (party : ℕ) (client : Client) (q : Queuer) (d : Decision) → IsPlace s party (Waiting q) → Fits r s party client (standing_of s party d).1
 fits_standing r s party client q (Barred line) (e, f) = (e, (q, f))
 fits_standing r s party client q other e = tt
-
-fits_waiting : (r : Rules) (s : State) (party : ℕ) (client : Client) (q : Queuer) (asked : Ask) → IsPlace s party (Waiting q) → Fits r s party client (to_waiting r s party q.client asked).1
-fits_waiting r s party client q ask.GiveBack (e, f) = (e, (q, f))
-fits_waiting r s party client q ask.Count e = tt
-fits_waiting r s party client q other e = fits_standing r s party client q (decide r s q.client) e
 
 fits_decided : (r : Rules) (s : State) (party : ℕ) (client : Client) (may_wait : Bool) (d : Decision) → decide r s client ≡ d → IsPlace s party Away → Fits r s party client (answer_by_decision r s may_wait d).1
 fits_decided r s party client may_wait (Retake charge) d e = (e, d)
@@ -186,28 +144,32 @@ fits_decided r s party client true Full d e = (e, d)
 fits_decided r s party client false Full d e = tt
 fits_decided r s party client may_wait other d e = tt
 
-fits_away : (r : Rules) (s : State) (party : ℕ) (client : Client) (asked : Ask) → IsPlace s party Away → Fits r s party client (to_away r s client asked).1
-fits_away r s party client (ask.Seat may_wait) e = fits_decided r s party client may_wait (decide r s client) refl e
-fits_away r s party client other e = tt
-
 pub answer_fits : (r : Rules) (s : State) (party : ℕ) (client : Client) (asked : Ask) (at : Place) → IsPlace s party at → Fits r s party client (answer_of r s party client asked at).1
-answer_fits r s party client asked (Told h) (e, t) = fits_told r s party client h asked e
-answer_fits r s party client asked (Untold h) (e, t) = fits_untold r s party client h asked e
-answer_fits r s party client asked (Waiting q) e = fits_waiting r s party client q asked e
-answer_fits r s party client asked Away e = fits_away r s party client asked e
+answer_fits r s party client ask.GiveBack (Told h) (e, t) = fits_given_back r s party client h (lingers r s) refl e
+answer_fits r s party client ask.Beat (Told h) (e, t) = (h, e)
+answer_fits r s party client other (Told h) e = tt
+answer_fits r s party client ask.Count (Untold h) e = tt
+answer_fits r s party client other (Untold h) (e, t) = (h, e)
+answer_fits r s party client ask.GiveBack (Waiting q) (e, f) = (e, (q, f))
+answer_fits r s party client ask.Count (Waiting q) e = tt
+answer_fits r s party client other (Waiting q) e = fits_standing r s party client q (decide r s q.client) e
+answer_fits r s party client (ask.Seat may_wait) Away e = fits_decided r s party client may_wait (decide r s client) refl e
+answer_fits r s party client other Away e = tt
 
 -- an effect that fits keeps what every step keeps
 
 kept_seated : (r : Rules) (s : State) (party : ℕ) (client : Client) (charge : Charge) → decide r s client ≡ Grant charge → IsSound r → HasNone s party → IsKept r s → IsKept r (with_seat s party client charge true)
 kept_seated r s party client charge e g none k =
     let room : _ × FitsCharge r s charge = grants r s client charge g k.reserved e in
+    let q : Queuer = record { party = party; client = client } in
     kept_of r (with_seat s party client charge true)
-    (keeps_seated r s party client charge true ((record { party = party; client = client }) ∷ []) [] room.0 room.1 (seat_for party client) (keeps_one r s party client none k))
+    (keeps_seated r s party client charge true (q ∷ []) [] room.0 room.1 (taken_in_turn q []) (keeps_one r s party client none k))
 
 kept_reseated : (r : Rules) (s : State) (party : ℕ) (client : Client) (charge : Charge) → decide r s client ≡ Retake charge → HasNone s party → IsKept r s → IsKept r (with_seat_again s party client charge true)
 kept_reseated r s party client charge e none k =
+    let q : Queuer = record { party = party; client = client } in
     kept_of r (with_seat_again s party client charge true)
-    (keeps_reseated r s party client charge true ((record { party = party; client = client }) ∷ []) [] (retakes r s client charge e) (seat_for party client) (keeps_one r s party client none k))
+    (keeps_reseated r s party client charge true (q ∷ []) [] (retakes r s client charge e) (taken_in_turn q []) (keeps_one r s party client none k))
 
 kept_joined : (r : Rules) (s : State) (party : ℕ) (client : Client) → HasNone s party → IsKept r s → IsKept r (with_queuer s (record { party = party; client = client }))
 kept_joined r s party client none k =
@@ -231,25 +193,15 @@ kept_apply r s party client Join (none, e) g k = kept_joined r s party client (a
 
 -- charges given anew
 
-cut_at : (r : Rules) (given : List Charge) (n line : ℕ) (b : Bool) → eqb n line ≡ b → times given n < cut_of n r.reserves → times given line ≤ cut_of line r.reserves → times (given ++ Reserve n ∷ []) line ≤ cut_of line r.reserves
-cut_at r given n line true e f h =
-    let same : n ≡ line = eqb-true n line e in
-    let less : times given line < cut_of line r.reserves = subst (λ (m : ℕ). times given m < cut_of m r.reserves) same f in
-    let more : times (given ++ Reserve n ∷ []) line ≡ times given line + 1 = count-push (λ (c : Charge). same_charge c (Reserve line)) given (Reserve n) ∙ rw e refl in
-    omega (arith, less, more)
-cut_at r given n line false e f h =
-    let same : times (given ++ Reserve n ∷ []) line ≡ times given line + 0 = count-push (λ (c : Charge). same_charge c (Reserve line)) given (Reserve n) ∙ rw e refl in
-    omega (arith, h, same)
-
 fits_cut : (r : Rules) (given : List Charge) (client : Client) (o : Option Limit) → find (λ (m : Limit). applies r.groups client m.line && ltb (times given m.line.line) m.number) r.reserves ≡ o → IsSound r
     → ((line : ℕ) → times given line ≤ cut_of line r.reserves) → (line : ℕ) → times (given ++ reserve_or_open (option_map number_of_limit o) ∷ []) line ≤ cut_of line r.reserves
 fits_cut r given client None e g h line = omega (arith, h line, count-push (λ (c : Charge). same_charge c (Reserve line)) given Open)
 fits_cut r given client (Some m) e g h line =
     let test : Limit → Bool = λ (x : Limit). applies r.groups client x.line && ltb (times given x.line.line) x.number in
     let passes : test m ≡ true = find_passes test r.reserves m e in
-    let room : times given m.line.line < m.number = ltb-true _ _ (and_right (applies r.groups client m.line) (ltb (times given m.line.line) m.number) passes) in
-    let first : m.number ≡ cut_of m.line.line r.reserves = eqb-true _ _ (all_found test (λ (x : Limit). eqb x.number (cut_of x.line.line r.reserves)) r.reserves m e g.apart) in
-    cut_at r given m.line.line line (eqb m.line.line line) refl (omega (arith, room, first)) (h line)
+    let first : eqb m.number (cut_of m.line.line r.reserves) ≡ true = all_found test (λ (x : Limit). eqb x.number (cut_of x.line.line r.reserves)) r.reserves m e g.apart in
+    let same : m.line.line ≡ line → times given m.line.line ≡ times given line = ap (times given) in
+    grind (arith, nat_tests, passes, first, same, h line, count-push (λ (c : Charge). same_charge c (Reserve line)) given (Reserve m.line.line))
 
 -- what was given stays within the cut numbers
 abbrev pub GivenWithin : Rules → List Charge → Type 0
@@ -280,11 +232,12 @@ pub length_lingering_anew : (r : Rules) (given : List Charge) (ls : List Lingere
 length_lingering_anew r given [] = refl
 length_lingering_anew r given (l ∷ ls) = omega (arith, length_lingering_anew r (given ++ next_charge r given l.client ∷ []) ls)
 
-parties_anew : (r : Rules) (given : List Charge) (p : ℕ) (hs : List Holder) → count_by (is_holder p) (holders_anew r given hs) ≡ count_by (is_holder p) hs
-parties_anew r given p [] = refl
-parties_anew r given p (h ∷ hs) =
+pub parties_anew : (test : ℕ → Bool) (r : Rules) (given : List Charge) (hs : List Holder) → count_by (λ (h : Holder). test h.party) (holders_anew r given hs) ≡ count_by (λ (h : Holder). test h.party) hs
+parties_anew test r given [] = refl
+parties_anew test r given (h ∷ hs) =
     let c : Charge = next_charge r given h.client in
-    count-cons (is_holder p) (record h { charge = c }) (holders_anew r (given ++ c ∷ []) hs) ∙ rw (parties_anew r (given ++ c ∷ []) p hs) (sym (count-cons (is_holder p) h hs))
+    let has : Holder → Bool = λ (x : Holder). test x.party in
+    omega (arith, parties_anew test r (given ++ c ∷ []) hs, count-cons has (record h { charge = c }) (holders_anew r (given ++ c ∷ []) hs), count-cons has h hs)
 
 -- charges given anew by rules of the same count keep what every step keeps
 pub kept_anew : (old r : Rules) (s : State) → IsSound r → old.count ≡ r.count → IsKept old s → IsKept r (with_charges_anew r s)
@@ -296,41 +249,28 @@ kept_anew old r s g same k =
     record {
       within = omega (arith, length_holders_anew r [] s.holders, length_lingering_anew r given s.lingering, k.within, same);
       reserved = λ line. subst (λ (n : ℕ). n ≤ cut_of line r.reserves) (charges_is (with_charges_anew r s) (Reserve line)) (all line);
-      single = λ p. omega (arith, parties_anew r [] p s.holders, k.single p);
+      single = λ p. omega (arith, parties_anew (λ y. eqb y p) r [] s.holders, k.single p);
     }
 
 -- no effect changes the rule set that holds, or the moment
 
 pub apply_set : (s : State) (party : ℕ) (client : Client) (x : Effect) → (apply s party client x).set ≡ s.set
-apply_set s party client Nothing = refl
-apply_set s party client other = refl
+apply_set s party client x = grind arith
 
 pub apply_now : (s : State) (party : ℕ) (client : Client) (x : Effect) → (apply s party client x).now ≡ s.now
-apply_now s party client Nothing = refl
-apply_now s party client other = refl
+apply_now s party client x = grind arith
 
-offered_set : (s : State) (q : Queuer) (d : Decision) → (with_offer s q d).set ≡ s.set
-offered_set s q (Barred line) = refl
-offered_set s q (Retake charge) = refl
-offered_set s q (Capped line) = refl
-offered_set s q (Grant charge) = refl
-offered_set s q Full = refl
+offered_same : (s : State) (q : Queuer) (d : Decision) → ((with_offer s q d).set ≡ s.set) × ((with_offer s q d).now ≡ s.now)
+offered_same s q d = grind arith
 
 -- settling changes no rule set
 pub serve_set : (r : Rules) (s : State) (qs : List Queuer) → (serve r s qs).set ≡ s.set
 serve_set r s [] = refl
-serve_set r s (q ∷ qs) = serve_set r (with_offer s q (decide r s q.client)) qs ∙ offered_set s q (decide r s q.client)
-
-offered_now : (s : State) (q : Queuer) (d : Decision) → (with_offer s q d).now ≡ s.now
-offered_now s q (Barred line) = refl
-offered_now s q (Retake charge) = refl
-offered_now s q (Capped line) = refl
-offered_now s q (Grant charge) = refl
-offered_now s q Full = refl
+serve_set r s (q ∷ qs) = serve_set r (with_offer s q (decide r s q.client)) qs ∙ (offered_same s q (decide r s q.client)).0
 
 pub serve_now : (r : Rules) (s : State) (qs : List Queuer) → (serve r s qs).now ≡ s.now
 serve_now r s [] = refl
-serve_now r s (q ∷ qs) = serve_now r (with_offer s q (decide r s q.client)) qs ∙ offered_now s q (decide r s q.client)
+serve_now r s (q ∷ qs) = serve_now r (with_offer s q (decide r s q.client)) qs ∙ (offered_same s q (decide r s q.client)).1
 
 pub settle_set : (r : Rules) (s : State) (moment : ℕ) → (settle r s moment).set ≡ s.set
 settle_set r s moment = serve_set r (record (timely r s moment) { queue = [] }) s.queue
