@@ -3,9 +3,9 @@ ghost use Rattle.std.specs.Prelude.{◌≡◌, ◌+◌, ◌≤◌, ◌++◌, ◌
 ghost use Rattle.audit_log.specs.Entries.{entry_text, kind_text};
 ghost use Rattle.audit_log.specs.Summaries.{log_text, tally_text};
 
-use lic_types::Name;
+use lic_types::{Name, put, put_number};
 use options_machine::{Entry, Kind};
-use reply_words::{put, put_number, put_reply};
+use reply_words::put_reply;
 
 /// Writes a space and a name behind it.
 fn put_name(room: &mut [u8], at: usize, name: &Name) -> usize

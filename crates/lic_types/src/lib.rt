@@ -1,5 +1,5 @@
 //! The plain types that every part of the licence daemon speaks of: names, versions, clients, rules, groups, days and
-//! notes, and the error for want of memory.
+//! notes, and the error for want of memory. Beside them the writing of texts and numbers into a room of bytes.
 #![tactic(auto)]
 
 mod client;
@@ -11,6 +11,7 @@ mod name;
 mod name_ref;
 mod note;
 mod printed_day;
+mod room;
 mod version;
 
 pub use client::{Client, Rule, RuleLine, Who, WhoKind};
@@ -22,4 +23,5 @@ pub use name::{Name, NameFault};
 pub use name_ref::NameRef;
 pub use no_memory::NoMemory;
 pub use note::{Note, NoteKind};
+pub use room::{put, put_number};
 pub use version::Version;

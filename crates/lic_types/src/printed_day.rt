@@ -2,23 +2,13 @@ ghost use Rattle.std.specs.Prelude.{◌≡◌, ◌+◌, ◌-◌, ◌≤◌, ◌<
 ghost use Rattle.lic_types.specs.Days.{day_text, month_text, year_text};
 
 use crate::day::Day;
+use crate::room::put;
 use itoa::Buffer;
 
 const MONTHS: [[u8; 3]; 12] = [
     *b"jan", *b"feb", *b"mar", *b"apr", *b"may", *b"jun", *b"jul", *b"aug", *b"sep", *b"oct",
     *b"nov", *b"dec",
 ];
-
-/// Writes a text behind the first bytes, and gives the offset behind it.
-fn put(room: &mut [u8; 16], at: usize, text: &[u8]) -> usize
-    requires { at + length text.now ≤ 16 }
-    ensures offset { result ≡ at + length text.now }
-    ensures written { take result room.new ≡ take at room.old ++ text.now }
-{
-    let end = at + text.len();
-    room[at..end].copy_from_slice(text);
-    end
-}
 
 fn month_name(month: u8) -> [u8; 3]
     requires low { 1 ≤ month }

@@ -1,7 +1,8 @@
 ghost use Rattle.std.specs.Prelude.{◌≡◌, ◌≤◌, length, take};
 ghost use Rattle.licence_daemon.specs.Status.{daemon_code, serve_line};
 
-use licence_tool::{ROOM, Status, Third, put, put_status};
+use lic_types::put;
+use licence_tool::{ROOM, Status, Third, put_status};
 
 /// How the program ends.
 #[derive(Clone, Copy, Debug, PartialEq, Eq)]

@@ -3,10 +3,10 @@ ghost use Rattle.std.specs.Prelude.{◌≡◌, ◌≤◌, ◌++◌, ◌∷◌, [
 ghost use Rattle.std.specs.List.{flat_map};
 ghost use Rattle.licence_tool.specs.AuditText.{no_text, user_line, yes_text};
 
-use lic_types::NoMemory;
+use lic_types::{NoMemory, put, put_number};
 use log_audit::{Sums, UserSum};
 use options_machine::Reply;
-use reply_words::{put, put_number, put_reply};
+use reply_words::put_reply;
 use std::alloc::Global;
 
 /// Room for the line of a log that is no run.

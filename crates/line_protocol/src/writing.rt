@@ -7,9 +7,9 @@ ghost use Rattle.line_protocol.specs.Replies.{desk_text, glance_text, line_of, s
 use crate::told::Told;
 use counter::Glance;
 use itoa::Buffer;
-use lic_types::Day;
+use lic_types::{Day, put, put_number};
 use options_machine::{Charge, Reply};
-use reply_words::{put, put_charge, put_number, reply_words};
+use reply_words::{put_charge, reply_words};
 
 /// Writes a word, and behind it a number, which has ten digits at most.
 fn put_numbered(room: &mut [u8], at: usize, text: &[u8], n: u32) -> usize

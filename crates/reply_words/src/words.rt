@@ -3,7 +3,7 @@ ghost use Rattle.std.specs.Prelude.{◌≡◌, ◌+◌, ◌≤◌, ◌++◌, dec
 ghost use Rattle.options_machine.specs.declared.reply.Reply.TheVariants.{Counts};
 ghost use Rattle.reply_words.specs.Words.{charge_text, own_text, reply_text};
 
-use crate::room::{put, put_number};
+use lic_types::{put, put_number};
 use options_machine::{Charge, Reply};
 
 /// Writes the words of a charge behind the first `at` bytes of a room, and gives the offset behind them. They take 28

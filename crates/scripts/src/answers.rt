@@ -2,9 +2,9 @@ ghost use Rattle.std.specs.Prelude.{◌≡◌, ◌≤◌, ◌++◌, ◌∷◌, [
 ghost use Rattle.lic_types.specs.Days.{day_text};
 ghost use Rattle.scripts.specs.Answers.{answer_text, reply_line};
 
-use lic_types::Day;
+use lic_types::{Day, put, put_number};
 use options_machine::Reply;
-use reply_words::{put, put_number, put_reply};
+use reply_words::put_reply;
 
 /// Room for one output line, in bytes.
 pub(crate) const LINE_ROOM: usize = 256;

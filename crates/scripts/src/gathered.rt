@@ -5,9 +5,8 @@ ghost use Rattle.scripts.specs.Answers.{answer_text};
 ghost use Rattle.scripts.specs.declared.gathered.TheConstants.{GATHER_LIMIT};
 
 use crate::answers::{Answer, LINE_ROOM, put_answer};
-use lic_types::NoMemory;
+use lic_types::{NoMemory, put};
 use outside::{Sink, WriteFailed};
-use reply_words::put;
 use std::alloc::Global;
 use std::marker::Model;
 

@@ -4,10 +4,9 @@ ghost use Rattle.lic_types.specs.Name.{is_name_byte};
 ghost use Rattle.trial_replay.specs.Events.{client_of, kind_numbered, mixed_number, moment_of, request_of};
 ghost use Rattle.trial_replay.specs.Requests.{request_numbered, requests_below};
 
-use lic_types::{Client, Name};
+use lic_types::{Client, Name, put, put_number};
 use no_memory::NoMemory;
 use options_machine::{Kind, Request};
-use reply_words::{put, put_number};
 use std::alloc::Global;
 
 /// How many parties there are.

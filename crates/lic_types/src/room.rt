@@ -1,4 +1,4 @@
-//! Texts, one behind another.
+//! Texts, one behind another, in a room of bytes.
 ghost use Rattle.std.specs.Prelude.{◌≡◌, ◌+◌, ◌≤◌, ◌++◌, decimal, length, take};
 
 use itoa::Buffer;
