@@ -5,3 +5,4 @@ pub mod Licence
 pub mod Steps
 pub mod Draft
 pub mod Route
+pub mod FaultText

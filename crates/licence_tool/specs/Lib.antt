@@ -1,7 +1,6 @@
 pub mod Asked
 pub mod AuditText
 pub mod Command
-pub mod FaultText
 pub mod Files
 pub mod Numbers
 pub mod Outcome

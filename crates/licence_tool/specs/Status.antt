@@ -1,6 +1,7 @@
 use Rattle.std.specs.Prelude.{ℕ, ◌-◌, Bool, true, false, ◌==◌, if◌then◌else◌, List, [], ◌∷◌, ◌++◌, codes, decimal}
+use Rattle.feature_lines.specs.FaultText.{is_of_licence, licence_line, licence_text}
+use Rattle.options_text.specs.FaultText.{is_of_options, options_line, options_text}
 use Rattle.script_words.specs.Texts.{text_of}
-use Rattle.licence_tool.specs.FaultText.{is_of_licence, is_of_options, licence_line, licence_text, options_line, options_text}
 use Rattle.licence_tool.specs.declared.command.Third.{Third}
 use Rattle.licence_tool.specs.declared.command.Third.TheVariants.{Script as IsScript, Log as IsLog}
 use Rattle.licence_tool.specs.declared.status.Status.{Status}

@@ -10,7 +10,8 @@ use Rattle.licence_tool.specs.Outcome.{Due, IsRefuted, IsTold, licence_heard, op
 use Rattle.options_machine.specs.Run.{IsRun}
 use Rattle.trial_replay.specs.Replayed.{run_of}
 use Rattle.trial_replay.specs.Terms.{bench_sets}
-use Rattle.licence_tool.specs.FaultText.{is_of_licence, is_of_options}
+use Rattle.feature_lines.specs.FaultText.{is_of_licence}
+use Rattle.options_text.specs.FaultText.{is_of_options}
 use Rattle.licence_tool.specs.declared.command.ScriptReport.{ScriptReport}
 use Rattle.licence_tool.specs.declared.status.Status.{Status}
 use Rattle.licence_tool.specs.declared.status.Status.TheVariants.{Done, Usage, Licence, Options, MoreOptions, Script, ReadFault, WriteFault, NoMemory, FileTooLong, AuditNo}

@@ -1,14 +1,15 @@
 ghost use Rattle.std.specs.Prelude.{◌≡◌, ◌+◌, ◌≤◌, ◌++◌, codes, decimal, length, take};
+ghost use Rattle.feature_lines.specs.FaultText.{licence_line, licence_text};
+ghost use Rattle.options_text.specs.FaultText.{options_line, options_text};
 ghost use Rattle.outside.specs.Told.{HasRisen};
-ghost use Rattle.licence_tool.specs.FaultText.{licence_line, licence_text, options_line, options_text};
 ghost use Rattle.licence_tool.specs.Status.{fault_line, file_called, line_of, set_called, third_called};
 ghost use Rattle.licence_tool.specs.Tool.{GainsLine};
 
 use crate::command::Third;
-use crate::fault_text::{licence_line, options_line, options_text, put_licence_text};
-use crate::room::{ROOM, put, put_number};
+use crate::room::ROOM;
 use crate::status::Status;
 use feature_lines::LicenceFault;
+use lic_types::{put, put_number};
 use options_text::OptionsFault;
 use outside::Sink;
 use script_words::ScriptFault;
@@ -19,7 +20,7 @@ fn put_set(room: &mut [u8; ROOM], set: u8) -> usize
     ensures written { take result room.new ≡ set_called set }
 {
     let at = put(room, 0, b"options ");
-    put_number(room, at, u32::from(set))
+    put_number(room, at, u64::from(set))
 }
 
 /// Writes what the third file is called.
@@ -53,7 +54,7 @@ fn put_line(room: &mut [u8; ROOM], at: usize, line: u32) -> usize
     ensures written { take result room.new ≡ take at room.old ++ codes ": line " ++ decimal line ++ codes ": " }
 {
     let at = put(room, at, b": line ");
-    let at = put_number(room, at, line);
+    let at = put_number(room, at, u64::from(line));
     put(room, at, b": ")
 }
 
@@ -62,8 +63,8 @@ fn put_licence_fault(room: &mut [u8; ROOM], fault: &LicenceFault) -> usize
     ensures written { take result room.new ≡ fault_line (codes "licence") (licence_line fault.now) (licence_text fault.now) }
 {
     let at = put(room, 0, b"licence");
-    let at = put_line(room, at, licence_line(fault));
-    let at = put_licence_text(room, at, fault);
+    let at = put_line(room, at, fault.line());
+    let at = fault.put_text(room, at);
     put(room, at, b"\n")
 }
 
@@ -73,8 +74,8 @@ fn put_options_fault(room: &mut [u8; ROOM], at: usize, fault: &OptionsFault) -> 
     ensures offset { result ≤ 96 }
     ensures written { take result room.new ≡ fault_line (take at room.old) (options_line fault.now) (options_text fault.now) }
 {
-    let at = put_line(room, at, options_line(fault));
-    let at = put(room, at, options_text(fault));
+    let at = put_line(room, at, fault.line());
+    let at = put(room, at, fault.text().as_bytes());
     put(room, at, b"\n")
 }
 

@@ -2,14 +2,13 @@
 //! of them.
 //!
 //! [`tool`] runs one command and ends with a [`Status`]; [`words_of`] reads the words of a command line. The readers of
-//! files and the texts of faults stand here for the daemon too.
+//! files and the lines of statuses stand here for the daemon too.
 #![tactic(auto)]
 
 mod audit_text;
 mod command;
 mod dates;
 mod err_line;
-mod fault_text;
 mod numbers;
 mod perform;
 mod reading;
@@ -23,7 +22,7 @@ pub use command::{Third, is_plain_word};
 pub use err_line::{put_status, write_line};
 pub use numbers::number_within;
 pub use reading::{read_licence_file, read_options_file, read_sets};
-pub use room::{ROOM, put};
+pub use room::ROOM;
 pub use running::tool;
 pub use status::Status;
 pub use words::{Words, words_of};

@@ -10,3 +10,4 @@ pub mod Merging
 pub mod Rises
 pub mod Laws
 pub mod Names
+pub mod FaultText
