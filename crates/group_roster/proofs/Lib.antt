@@ -1,2 +1,3 @@
 pub mod Rosters
 pub mod Places
+pub mod Marks

@@ -1,11 +1,16 @@
 //! Numbers made of names, by which a name is looked up among many.
-ghost use Rattle.std.specs.Prelude.{◌≡◌, false, true, IfNone, IfSome, IsPermutation};
+ghost use Rattle.std.specs.Prelude.{◌≡◌, ◌<◌, ◌%◌, false, true, IfNone, IfOk, IfSome, IsPermutation};
 ghost use Rattle.group_roster.specs.Listings.{name_print};
-ghost use Rattle.group_roster.specs.Printed.{has_print, leads_to};
+ghost use Rattle.group_roster.specs.Printed.{AreMarked, has_print, leads_to};
 
 use crate::listing::print_after;
 use lic_types::Name;
+use no_memory::NoMemory;
+use std::alloc::Global;
 use std::marker::Model;
+
+/// How many marks there are for each name: so one in nine of the names that are none of theirs is looked for in vain.
+const MARKS_EACH: usize = 8;
 
 /// The print of a name: a number made of its bytes, which differs for most names that differ.
 pub fn name_print(name: &Name) -> u64
@@ -24,31 +29,59 @@ pub struct Printed {
 }
 
 /// Names by their prints, each with a place, which a clause sees as a list. They stand in the order of their prints, so
-/// one is looked up in as many steps as their number has bits.
+/// one is looked up in as many steps as their number has bits. Most names that are none of theirs are told by one look,
+/// at the mark of their print.
 #[derive(Drop)]
 pub struct Prints {
     sorted: Vec<Printed>,
+    // A print's mark is at its remainder by their number. Those of these names are set.
+    marks: Vec<bool>,
 }
 
 impl Model for Prints {
     ghost use Rattle.std.specs.Prelude.{List};
-    ghost use Rattle.group_roster.specs.Printed.{AreInOrder};
+    ghost use Rattle.group_roster.specs.Printed.{IsKept};
     ghost use Rattle.group_roster.specs.declared.prints.Printed.{Printed};
 
     ghost Value = { List Printed };
 
     ghost view = { λ p. p.sorted.items };
 
-    ghost invariant = { λ p. AreInOrder p.sorted.items };
+    ghost invariant = { λ p. IsKept p.marks.items p.sorted.items };
+}
+
+/// Where the mark of a print is, among so many.
+fn mark_at(print: u64, marks: usize) -> usize
+    requires { 0 < marks }
+    ensures at { result ≡ print % marks }
+    ensures within { result < marks }
+{
+    (print % marks as u64) as usize
+}
+
+/// The marks of these names.
+fn marks_of(alloc: Global, names: &[Printed]) -> Result<Vec<bool>, NoMemory>
+    ensures { IfOk result (λ marks. AreMarked marks.items names.now) }
+{
+    let count = names.len().saturating_mul(MARKS_EACH).saturating_add(1);
+    let mut marks = vec![in alloc; false; count]?;
+    for name in names {
+        marks[mark_at(name.print, count)] = true;
+    }
+    Ok(marks)
 }
 
 impl Prints {
-    /// These names, put in order.
-    pub fn of(mut names: Vec<Printed>) -> Prints
-        ensures { IsPermutation names.items result }
+    /// These names, put in order. It is refused only where there is too little memory.
+    pub fn of(alloc: Global, mut names: Vec<Printed>) -> Result<Prints, NoMemory>
+        ensures { IfOk result (λ made. IsPermutation names.items made) }
     {
         names.sort_unstable_by_key(|name| name.print);
-        Prints { sorted: names }
+        let marks = marks_of(alloc, names.as_slice())?;
+        Ok(Prints {
+            sorted: names,
+            marks,
+        })
     }
 
     /// A place to which a name of this print leads; None where there is none, and then the name is none of theirs.
@@ -57,6 +90,9 @@ impl Prints {
         ensures none { IfNone result (has_print name.now self.now ≡ false) }
     {
         let print = name_print(name);
+        if !self.marks[mark_at(print, self.marks.len())] {
+            return None;
+        }
         match self.sorted.binary_search_by_key(&print, |name| name.print) {
             Ok(at) => Some(self.sorted[at].place),
             Err(_) => None,

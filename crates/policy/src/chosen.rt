@@ -165,7 +165,7 @@ impl ChosenLines {
             all: all.share()?,
             places,
             grouped,
-            printed: Prints::of(printed),
+            printed: Prints::of(alloc, printed)?,
         })
     }
 
