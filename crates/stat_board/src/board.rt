@@ -11,7 +11,7 @@ use crate::law::Ruling;
 use crate::list::Head;
 use crate::note::BoardNote;
 use crate::pass::BoardPass;
-use crate::rule::{NoteReader, NoteWriter, Sees, Telling};
+use crate::rule::{NoteReader, NoteWriter, Opens, Sees, Telling};
 use crate::share::ReaderShare;
 use core::mem::replace_with;
 use counter::Glance;
@@ -68,7 +68,7 @@ impl Board {
         let mut share = ReaderShare::vacant(alloc, &note)?;
         deal(&mut share, &note, &mut passes, n)?;
         let writer = NoteWriter::new(alloc, note.copy(), note.copy(), 1)?;
-        let (mut writer, ()) = show(writer, rt);
+        let mut writer = open(writer, rt);
         if let Some(reader) = informed(&mut writer, &note) {
             share.put(reader);
         }
@@ -127,6 +127,15 @@ impl Board {
         } = self;
         drop(writer.take(rt));
     }
+}
+
+/// Publishes for the first time.
+fn open<R: Wait>(writer: NoteWriter, rt: &R) -> NoteWriter
+    requires { IsLater writer.desk.shown.value (last_of writer.desk.shown.value (drop writer.behind writer.log.items)) }
+    ensures { IsPublished result.desk.shown.value (view result.desk.place) (drop result.behind result.log.items) (last_of writer.desk.shown.value (drop writer.behind writer.log.items)) }
+{
+    let (writer, _done) = writer.publish_as::<Opens, R>(rt);
+    writer
 }
 
 /// Publishes what is pending.

@@ -30,6 +30,16 @@ impl Outcome<BoardNote, Known> for Sees {
     ghost then = { Knows };
 }
 
+/// As `Sees`, of a board's first publishing. It is a type of its own so that each of the two calls has code of its own,
+/// which the compiler then writes in place of the call: the writer isn't copied at each publishing.
+pub(crate) struct Opens;
+
+impl Outcome<BoardNote, Known> for Opens {
+    ghost use Rattle.stat_board.specs.Rule.{Knows};
+
+    ghost then = { Knows };
+}
+
 /// One seat tells another what it knows.
 pub(crate) struct Telling;
 
