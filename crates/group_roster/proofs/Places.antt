@@ -9,8 +9,7 @@ use Rattle.std.specs.List.Sorted.{IsBinarySearchResult}
 use Rattle.std.specs.Ordering.{is_eq, nat_cmp}
 use Rattle.std.specs.declared.cmp.Ordering.TheVariants.{Equal}
 use Rattle.std.proofs.lemmas.Bool.{and_from}
-use Rattle.group_roster.specs.Printed.{AreInOrder, has_print, is_entry, leads_to}
-use Rattle.group_roster.specs.Listings.{name_print}
+use Rattle.group_roster.specs.Printed.{AreInOrder, is_entry}
 use Rattle.group_roster.specs.declared.prints.Printed.{Printed}
 use Rattle.group_roster.proofs.Rosters.{not_at}
 
@@ -37,17 +36,15 @@ no_entry xs print i sorted result =
     list_any_none (λ (x : Printed). x.print == print) xs
     (λ k d within. other_number (get_or xs k d).print print (not_at (λ (x : Printed). nat_cmp x.print print) xs i parts k d within))
 
--- the same, where the entries and the print were read
-pub found_entry_as : (items seen read : List Printed) (name : List ℕ) (print i : ℕ) (e : Printed) → read ≡ items → items ≡ seen → print ≡ name_print name
-    → i < length read → IsBinarySearchResult (λ (x : Printed). nat_cmp x.print print) read (Ok i) → e ≡ get_or items i e → leads_to name e.place seen ≡ true
-found_entry_as items seen read name print i e r v n within equal is =
-    ap (λ (es : List Printed). list_any (is_entry (name_print name) e.place) es) (sym v)
-    ∙ ap (λ (m : ℕ). list_any (is_entry m e.place) items) (sym n)
+-- the same, where the entries were read
+pub found_entry_as : (items seen read : List Printed) (print i : ℕ) (e : Printed) → read ≡ items → items ≡ seen
+    → i < length read → IsBinarySearchResult (λ (x : Printed). nat_cmp x.print print) read (Ok i) → e ≡ get_or items i e → list_any (is_entry print e.place) seen ≡ true
+found_entry_as items seen read print i e r v within equal is =
+    ap (list_any (is_entry print e.place)) (sym v)
     ∙ found_entry items print i e (subst (λ (es : List Printed). i < length es) r within) (subst (λ (es : List Printed). IsBinarySearchResult (λ (x : Printed). nat_cmp x.print print) es (Ok i)) r equal) is
 
-pub no_entry_as : (items seen read : List Printed) (name : List ℕ) (print i : ℕ) → read ≡ items → items ≡ seen → print ≡ name_print name
-    → AreInOrder items → IsBinarySearchResult (λ (x : Printed). nat_cmp x.print print) read (Err i) → has_print name seen ≡ false
-no_entry_as items seen read name print i r v n sorted result =
-    ap (λ (es : List Printed). list_any (λ (x : Printed). x.print == name_print name) es) (sym v)
-    ∙ ap (λ (m : ℕ). list_any (λ (x : Printed). x.print == m) items) (sym n)
+pub no_entry_as : (items seen read : List Printed) (print i : ℕ) → read ≡ items → items ≡ seen
+    → AreInOrder items → IsBinarySearchResult (λ (x : Printed). nat_cmp x.print print) read (Err i) → list_any (λ (x : Printed). x.print == print) seen ≡ false
+no_entry_as items seen read print i r v sorted result =
+    ap (list_any (λ (x : Printed). x.print == print)) (sym v)
     ∙ no_entry items print i sorted (subst (λ (es : List Printed). IsBinarySearchResult (λ (x : Printed). nat_cmp x.print print) es (Err i)) r result)

@@ -1,4 +1,4 @@
-use Rattle.std.specs.Prelude.{◌≡◌, ℕ, ◌<◌, ◌%◌, ◌==◌, Bool, true, false, ◌&&◌, List, All, get_or, length}
+use Rattle.std.specs.Prelude.{◌≡◌, ℕ, ◌<◌, ◌%◌, ◌==◌, Bool, true, ◌&&◌, List, All, get_or, length, Option, None, is_some}
 use Rattle.std.specs.List.{list_any}
 use Rattle.std.specs.List.Sorted.{IsSortedBy}
 use Rattle.std.specs.Ordering.{is_lt, nat_cmp}
@@ -21,12 +21,12 @@ leads_to name place entries = list_any (is_entry (name_print name) place) entrie
 abbrev pub AreInOrder : List Printed → Type 0
 AreInOrder entries = IsSortedBy (λ (a b : Printed). is_lt (nat_cmp a.print b.print)) entries
 
--- among some marks, those of these prints are set: the mark of a print is at its remainder by their number
-pub record AreMarked (marks : List Bool) (entries : List Printed) : Type 0 where
+-- among some marks, those of these prints point somewhere: the mark of a print is at its remainder by their number
+pub record AreMarked (marks : List (Option ℕ)) (entries : List Printed) : Type 0 where
   pub some : 0 < length marks
-  pub set : All (λ (e : Printed). get_or marks (e.print % length marks) false ≡ true) entries
+  pub set : All (λ (e : Printed). is_some (get_or marks (e.print % length marks) None) ≡ true) entries
 
 -- what is kept of names: in the order of their prints, with the marks of those
-pub record IsKept (marks : List Bool) (entries : List Printed) : Type 0 where
+pub record IsKept (marks : List (Option ℕ)) (entries : List Printed) : Type 0 where
   pub sorted : AreInOrder entries
   pub marked : AreMarked marks entries

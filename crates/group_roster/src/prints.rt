@@ -1,7 +1,8 @@
 //! Numbers made of names, by which a name is looked up among many.
-ghost use Rattle.std.specs.Prelude.{◌≡◌, ◌<◌, ◌%◌, false, true, IfNone, IfOk, IfSome, IsPermutation};
+ghost use Rattle.std.specs.Prelude.{◌≡◌, ◌<◌, ◌%◌, ◌==◌, false, true, IfNone, IfOk, IfSome, IsPermutation};
+ghost use Rattle.std.specs.List.{list_any};
 ghost use Rattle.group_roster.specs.Listings.{name_print};
-ghost use Rattle.group_roster.specs.Printed.{AreMarked, has_print, leads_to};
+ghost use Rattle.group_roster.specs.Printed.{AreMarked, has_print, is_entry, leads_to};
 
 use crate::listing::print_after;
 use lic_types::Name;
@@ -28,14 +29,14 @@ pub struct Printed {
     pub place: usize,
 }
 
-/// Names by their prints, each with a place, which a clause sees as a list. They stand in the order of their prints, so
-/// one is looked up in as many steps as their number has bits. Most names that are none of theirs are told by one look,
-/// at the mark of their print.
+/// Names by their prints, each with a place, which a clause sees as a list. Most are told by one look, at the mark of
+/// their print: it points nowhere where the name is none of theirs, and else mostly to the name. The others are looked up
+/// in as many steps as the number of names has bits, since those stand in the order of their prints.
 #[derive(Drop)]
 pub struct Prints {
     sorted: Vec<Printed>,
-    // A print's mark is at its remainder by their number. Those of these names are set.
-    marks: Vec<bool>,
+    // A print's mark is at its remainder by their number. Those of these names point to some of them.
+    marks: Vec<Option<u32>>,
 }
 
 impl Model for Prints {
@@ -60,13 +61,13 @@ fn mark_at(print: u64, marks: usize) -> usize
 }
 
 /// The marks of these names.
-fn marks_of(alloc: Global, names: &[Printed]) -> Result<Vec<bool>, NoMemory>
+fn marks_of(alloc: Global, names: &[Printed]) -> Result<Vec<Option<u32>>, NoMemory>
     ensures { IfOk result (λ marks. AreMarked marks.items names.now) }
 {
     let count = names.len().saturating_mul(MARKS_EACH).saturating_add(1);
-    let mut marks = vec![in alloc; false; count]?;
-    for name in names {
-        marks[mark_at(name.print, count)] = true;
+    let mut marks = vec![in alloc; None; count]?;
+    for (at, name) in names.iter().enumerate() {
+        marks[mark_at(name.print, count)] = Some(u32::try_from(at).unwrap_or(0));
     }
     Ok(marks)
 }
@@ -90,9 +91,18 @@ impl Prints {
         ensures none { IfNone result (has_print name.now self.now ≡ false) }
     {
         let print = name_print(name);
-        if !self.marks[mark_at(print, self.marks.len())] {
-            return None;
+        let at = self.marks[mark_at(print, self.marks.len())]?;
+        match self.sorted.get(at as usize) {
+            Some(first) if first.print == print => Some(first.place),
+            _ => self.searched(print),
         }
+    }
+
+    /// A place to which a name of this print leads, by a search through all of them.
+    fn searched(&self, print: u64) -> Option<usize>
+        ensures found { IfSome result (λ place. list_any (is_entry print place) self.now ≡ true) }
+        ensures none { IfNone result (list_any (λ e. e.print == print) self.now ≡ false) }
+    {
         match self.sorted.binary_search_by_key(&print, |name| name.print) {
             Ok(at) => Some(self.sorted[at].place),
             Err(_) => None,

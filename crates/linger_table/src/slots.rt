@@ -118,6 +118,10 @@ impl Slots {
     pub fn first_of(&self, client: &Client) -> Option<usize>
         ensures { result ≡ position (slot_is_of client.now) self.now.slots }
     {
+        // The mark of the client costs more than the look whether there are any.
+        if self.slots.is_empty() {
+            return None;
+        }
         first_marked(
             self.marks.as_slice(),
             self.slots.as_slice(),
