@@ -1,5 +1,6 @@
 """Runs the built client against the built daemon: each command, and each end that a daemon or its want brings about."""
 
+import faulthandler
 import os
 import re
 import select
@@ -16,6 +17,9 @@ from daemon import PATIENCE, Daemon
 LICENCE = "FEATURE edit acme 2.0 permanent 2 SIGN=00AB\nFEATURE draft acme 1.0 permanent 5 SIGN=00AB\n"
 OPTIONS = "RESERVE 1 draft USER ann\nEXCLUDE draft USER eve\n"
 WHO = ["--user", "ann", "--host", "h1", "--display", "d1", "--project", "p1"]
+
+# After so many seconds without an end the check tells where it waits, and fails.
+LIMIT = 600
 
 faults = []
 
@@ -90,7 +94,17 @@ def shows(program, daemon):
     same("status of no feature", client(program, daemon.path, "status", "edit", "none"), (1, "", "GLANCE none\nUNKNOWN\n"))
 
 
+def wait_for_seats(daemon):
+    """Waits until the clients that left have given their seats of edit back: a daemon sees the end of a link a little later."""
+    with daemon.session("watch h0 d0 p0") as watch:
+        end = time.monotonic() + PATIENCE
+        while not (found := watch.ask("STATUS edit")).startswith("COUNTS HELD 0 ") and time.monotonic() < end:
+            time.sleep(0.02)
+    same("seats given back", found.rpartition(" #")[0], "COUNTS HELD 0 LINGERING 0 OPEN 0 OF 2 OWN 0")
+
+
 def holds(program, daemon):
+    wait_for_seats(daemon)
     words = [program, *WHO, "--every", "1", daemon.path, "hold", "edit", "1.0"]
     with subprocess.Popen(words, stdin=subprocess.PIPE, stdout=subprocess.PIPE, stderr=subprocess.PIPE, text=True) as held:
         granted = held.stdout.readline()
@@ -106,6 +120,7 @@ def holds(program, daemon):
             same("hold: beats", beats >= 3, True)
             same("hold: no seat", bob.ask("STATUS edit").rpartition(" #")[0], "COUNTS HELD 0 LINGERING 0 OPEN 0 OF 2 OWN 0")
         same("hold: end", (held.wait(30), held.stderr.read()), (0, ""))
+    wait_for_seats(daemon)
     with daemon.session("bob h2 d2 p2") as bob, daemon.session("cy h3 d3 p3") as cy:
         bob.ask("CHECKOUT edit 1.0")
         cy.ask("CHECKOUT edit 1.0")
@@ -120,6 +135,7 @@ def told(lines):
 
 def waits(program, daemon):
     """Of two seats both are had: who waits is granted one once it is given back; who ends its input before gives its place back."""
+    wait_for_seats(daemon)
     words = [program, *WHO, "--wait", "--every", "1", daemon.path, "hold", "edit", "1.0"]
     pipes = {"stdin": subprocess.PIPE, "stdout": subprocess.PIPE, "stderr": subprocess.PIPE, "text": True}
     with daemon.session("bob h2 d2 p2") as bob, daemon.session("cy h3 d3 p3") as cy:
@@ -136,6 +152,7 @@ def waits(program, daemon):
             same("hold --wait: a seat", cy.ask("STATUS edit").rpartition(" #")[0], "COUNTS HELD 2 LINGERING 0 OPEN 2 OF 2 OWN 1")
             held.stdin.close()
             same("hold --wait: given back", (told(held.stdout), held.wait(30), held.stderr.read()), ("RETURNED #n\n", 0, ""))
+    wait_for_seats(daemon)
     free = [program, *WHO, "--wait", daemon.path, "hold", "edit", "1.0"]
     ran = subprocess.run(free, stdin=subprocess.DEVNULL, capture_output=True, text=True, timeout=60)
     same("hold --wait where a seat is free", (ran.returncode, re.sub(r"#\d+", "#n", ran.stdout)), (0, "GRANTED SEAT 0 OPEN #n\nRETURNED #n\n"))
@@ -239,6 +256,7 @@ def full_device(program, daemon):
 
 
 def main():
+    faulthandler.dump_traceback_later(LIMIT, exit=True)
     daemon_program = sys.argv[1] if len(sys.argv) > 1 else os.path.abspath("crates/licence_main/out/licence_main")
     program = sys.argv[2] if len(sys.argv) > 2 else os.path.abspath("crates/licence_client/out/licence_client")
     for built in (daemon_program, program):
