@@ -2,7 +2,7 @@ use Rattle.std.proofs.Common.{◌≡◌, ◌⊎◌, ℕ, inl, inr, true, ◌&&�
 use Rattle.std.specs.List.{list_all}
 use Rattle.std.proofs.lemmas.Bool.{and_parts}
 use Rattle.door_worker.specs.Visits.{Visit}
-use Rattle.licence_tool.proofs.Checks.{wider, wider_all}
+use Rattle.licence_tool.proofs.Readings.{wider, wider_all}
 use Rattle.licence_tool.specs.Files.{AreReadings, Bytes, IsReading}
 use Rattle.licence_tool.specs.Tool.{RefusalSays}
 use Rattle.licence_tool.specs.declared.status.Status.{Status}

@@ -3,7 +3,7 @@ use Rattle.licence_tool.specs.Command.{CheckFiles}
 use Rattle.licence_tool.specs.Files.{AreOfCheck, Bytes, IsReading}
 use Rattle.licence_tool.specs.declared.status.Status.{Status}
 use Rattle.licence_tool.specs.declared.status.Status.TheVariants as tool
-use Rattle.licence_tool.proofs.Checks.{wider}
+use Rattle.licence_tool.proofs.Readings.{wider}
 use Rattle.lint_advice.specs.declared.advice.Advice.{Advice}
 use Rattle.lint_advice.specs.declared.advice.Horizon.{Horizon}
 use Rattle.licence_lint.specs.Lint.{ForLint, IsComplete, IsLinted, IsSure, LintSays, advice_heard, end_of}

@@ -7,7 +7,7 @@ use Rattle.licence_tool.specs.Asked.{Asks, EndsAt, FailedAt, FailsAt}
 use Rattle.licence_tool.specs.Files.{Bytes}
 use Rattle.licence_tool.specs.Outcome.{Due, Text, position_of_set}
 use Rattle.licence_tool.specs.Tool.{DueSays, RefusalSays, WritingSays}
-use Rattle.licence_tool.proofs.Checks.{due_written}
+use Rattle.licence_tool.proofs.Ends.{due_written}
 use Rattle.licence_tool.specs.declared.status.Status.{Status}
 use Rattle.licence_tool.specs.declared.status.Status.TheVariants.{Done, Usage, Licence, Options, MoreOptions, Script, ReadFault, WriteFault, NoMemory, FileTooLong, AuditNo}
 

@@ -8,39 +8,25 @@ use Rattle.licence_tool.specs.declared.reading.TheConstants.{FILE_LIMIT}
 use Rattle.licence_tool.specs.declared.status.Status.{Status}
 use Rattle.licence_tool.specs.declared.status.Status.TheVariants.{Done, Usage, Licence, Options, MoreOptions, Script, ReadFault, WriteFault, NoMemory, FileTooLong, AuditNo}
 
--- what a status says of an answer, it says of what follows from that answer
-pub refusal_onward : {X Y : Type 0} (Failed Wide : Type 0) (answer : Result X Status) (next : X → Result Y Status) (status : Status) → (Failed → Wide) → RefusalSays Failed answer status → RefusalSays Wide (answer >>= next) status
-refusal_onward Failed Wide answer next NoMemory wide says = tt
-refusal_onward Failed Wide answer next (ReadFault file) wide says = (ap (λ h. h >>= next) says.0, wide says.1)
-refusal_onward Failed Wide answer next (FileTooLong file) wide says = ap (λ h. h >>= next) says
-refusal_onward Failed Wide answer next (Script fault) wide says = ap (λ h. h >>= next) says
-refusal_onward Failed Wide answer next (Licence fault) wide says = (ap (λ h. h >>= next) says.0, says.1)
-refusal_onward Failed Wide answer next (Options fault) wide says = (ap (λ h. h >>= next) says.0, says.1)
-refusal_onward Failed Wide answer next (MoreOptions set fault) wide says = (ap (λ h. h >>= next) says.0, says.1)
-refusal_onward Failed Wide answer next Done wide says = absurd says
-refusal_onward Failed Wide answer next Usage wide says = absurd says
-refusal_onward Failed Wide answer next WriteFault wide says = absurd says
-refusal_onward Failed Wide answer next (AuditNo line) wide says = absurd says
-
--- and where more readings may have failed
-pub refusal_wider : {X : Type 0} (Failed Wide : Type 0) (answer : Result X Status) (status : Status) → (Failed → Wide) → RefusalSays Failed answer status → RefusalSays Wide answer status
-refusal_wider Failed Wide answer NoMemory wide says = tt
-refusal_wider Failed Wide answer (ReadFault file) wide says = (says.0, wide says.1)
-refusal_wider Failed Wide answer (FileTooLong file) wide says = says
-refusal_wider Failed Wide answer (Script fault) wide says = says
-refusal_wider Failed Wide answer (Licence fault) wide says = says
-refusal_wider Failed Wide answer (Options fault) wide says = says
-refusal_wider Failed Wide answer (MoreOptions set fault) wide says = says
-refusal_wider Failed Wide answer Done wide says = absurd says
-refusal_wider Failed Wide answer Usage wide says = absurd says
-refusal_wider Failed Wide answer WriteFault wide says = absurd says
-refusal_wider Failed Wide answer (AuditNo line) wide says = absurd says
+-- what a status says of an answer, it says of another that is refused as that is, where as many readings may have failed
+pub refusal_of : {X Y : Type 0} (Failed Wide : Type 0) (answer : Result X Status) (other : Result Y Status) (status : Status) → (Failed → Wide) → ((s : Status) → answer ≡ Err s → other ≡ Err s) → RefusalSays Failed answer status → RefusalSays Wide other status
+refusal_of Failed Wide answer other NoMemory wide same says = tt
+refusal_of Failed Wide answer other (ReadFault file) wide same says = (same (ReadFault file) says.0, wide says.1)
+refusal_of Failed Wide answer other (FileTooLong file) wide same says = same (FileTooLong file) says
+refusal_of Failed Wide answer other (Script fault) wide same says = same (Script fault) says
+refusal_of Failed Wide answer other (Licence fault) wide same says = (same (Licence fault) says.0, says.1)
+refusal_of Failed Wide answer other (Options fault) wide same says = (same (Options fault) says.0, says.1)
+refusal_of Failed Wide answer other (MoreOptions set fault) wide same says = (same (MoreOptions set fault) says.0, says.1)
+refusal_of Failed Wide answer other Done wide same says = absurd says
+refusal_of Failed Wide answer other Usage wide same says = absurd says
+refusal_of Failed Wide answer other WriteFault wide same says = absurd says
+refusal_of Failed Wide answer other (AuditNo line) wide same says = absurd says
 
 -- a file whose bytes aren't heard isn't judged
 pub unheard : {X V Y : Type 0} (view : X → Y) (bytes_of : V → List ℕ) (position : ℕ) (next : List ℕ → Result Y Status) (Failed : Type 0) (told : Bytes) (status : Status)
     → IsHeard bytes_of (bytes_or_status position) Failed told (Err status) → IsHeard view (λ (r : Bytes). bytes_or_status position r >>= next) Failed told (Err status)
 unheard view bytes_of position next Failed told status h =
-    record { reading = h.reading; is = h.is; says = refusal_onward Failed Failed (bytes_or_status position h.reading) next status (λ f. f) h.says }
+    record { reading = h.reading; is = h.is; says = refusal_of Failed Failed (bytes_or_status position h.reading) _ status (λ f. f) (λ s e. ap (λ a. a >>= next) e) h.says }
 
 -- a file whose bytes are heard is judged by them
 pub judged : {X V Y : Type 0} (view : X → Y) (bytes_of : V → List ℕ) (position : ℕ) (next : List ℕ → Result Y Status) (Failed : Type 0) (told : Bytes) (bytes : V) (result : Result X Status)

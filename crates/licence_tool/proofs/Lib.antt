@@ -1,8 +1,9 @@
 pub mod Asking
 pub mod Calendars
-pub mod Checks
 pub mod Clauses
+pub mod Ends
 pub mod Hearing
+pub mod Readings
 pub mod Replays
 pub mod Runs
 pub mod Sets

@@ -9,7 +9,7 @@ use Rattle.licence_tool.specs.Files.{Bytes}
 use Rattle.licence_tool.specs.Outcome.{Text}
 use Rattle.licence_tool.specs.Tool.{ForFiles, IsDone, WritingSays}
 use Rattle.licence_tool.proofs.Asking.{none_asked, wrote_text}
-use Rattle.licence_tool.proofs.Checks.{due_written, writes}
+use Rattle.licence_tool.proofs.Ends.{due_written, writes}
 use Rattle.licence_tool.specs.declared.status.Status.{Status}
 use Rattle.licence_tool.specs.declared.status.Status.TheVariants.{Done}
 

@@ -1,115 +1,51 @@
-use Rattle.std.proofs.Common.{length, map, refl, ◌∙◌, arith, string_bytes}
+use Rattle.std.proofs.Common.{length, map, refl, string_bytes}
 use Rattle.std.proofs.lemmas.Result.{err_from_is_err_and}
 use Rattle.log_audit.specs.Audited.{sets_of}
 use Rattle.outside.specs.Told.{HasRisen}
 use Rattle.licence_tool.specs.Outcome.{Verdict}
 use Rattle.licence_tool.proofs.Asking.{join, stop, wrote}
-use Rattle.licence_tool.proofs.Checks.{wider, wider_told}
-use Rattle.licence_tool.proofs.Hearing.{refusal_wider}
-use Rattle.licence_tool.proofs.Replays.{audited, hears_log, owes_verdict}
-use Rattle.licence_tool.proofs.Runs.{rises, run_first, run_fourth, run_last, run_second, run_third}
-use Rattle.licence_tool.proofs.Sets.{same_told}
+use Rattle.licence_tool.proofs.Readings.{accepted, begins, refused, several}
+use Rattle.licence_tool.proofs.Runs.{audit_done, audit_hears}
 use Rattle.licence_tool.proofs.perform.audit.Goals as goal
 
 pub returns-in_err-licence-clause-says : goal.returns-in_err-licence-clause-says
 returns-in_err-licence-clause-says g c =
     let p = err_from_is_err_and c.from_residual.result c.from_residual.ensures.1 in
-    let l = c.in_err-licence.ensures.says in
-    rw (p.1, p.2) (audited c.args.report _ _ _ _ _ _ (run_first hears_log (owes_verdict c.args.report) _ _ _ _ _ l.reading l.is l.says))
+    let none = begins (audit_hears c.args.report) (g.F.Files.contents c.args.files.now) (length (g.F.Files.failed c.args.files.now)) in
+    rw (p.1, p.2) (audit_done (refused _ _ _ none c.in_err-licence.ensures.later c.in_err-licence.ensures.says) (refl, refl))
 
 pub returns-in_err-options-clause-says : goal.returns-in_err-options-clause-says
 returns-in_err-options-clause-says g c =
     let p = err_from_is_err_and c.from_residual-in_err-options.result c.from_residual-in_err-options.ensures.1 in
-    let l = c.in_ok-licence.ensures.says in
-    let o = c.in_err-options.ensures.says in
-    let f0 = length (g.F.Files.failed c.args.files.now) in
-    let f1 = length (g.F.Files.failed c.read_licence_file.new.files) in
-    let f2 = length (g.F.Files.failed c.read_options_file.new.files) in
-    let later1 = c.in_ok-licence.ensures.later in
-    let later2 = c.in_err-options.ensures.later in
-    rw (p.1, p.2) (audited c.args.report _ _ _ _ _ _ (run_second hears_log (owes_verdict c.args.report) _ _ _ _ _ l.reading o.reading c.in_ok-licence.licence
-    (wider _ _ _ _ l.reading refl (rises f0 f0 f1 f2 (omega arith) later2) l.is)
-    (wider _ _ _ _ o.reading (c.in_ok-licence.ensures.same c.args.options.now) (rises f0 f1 f2 f2 later1 (omega arith)) o.is)
-    l.says (refusal_wider _ _ _ _ (rises f0 f1 f2 f2 later1 (omega arith)) o.says)))
+    let none = begins (audit_hears c.args.report) (g.F.Files.contents c.args.files.now) (length (g.F.Files.failed c.args.files.now)) in
+    let licence = accepted _ _ none c.in_ok-licence.ensures.same c.in_ok-licence.ensures.later c.in_ok-licence.ensures.says in
+    rw (p.1, p.2) (audit_done (refused _ _ _ licence c.in_err-options.ensures.later c.in_err-options.ensures.says) (refl, refl))
 
 pub returns-in_err-log-clause-says : goal.returns-in_err-log-clause-says
 returns-in_err-log-clause-says g c =
     let p = err_from_is_err_and c.from_residual-in_err-log.result c.from_residual-in_err-log.ensures.1 in
-    let l = c.in_ok-licence.ensures.says in
-    let o = c.in_ok-options.ensures.says in
-    let s = c.in_err-log.ensures.says in
-    let f0 = length (g.F.Files.failed c.args.files.now) in
-    let f1 = length (g.F.Files.failed c.read_licence_file.new.files) in
-    let f2 = length (g.F.Files.failed c.read_options_file.new.files) in
-    let f3 = length (g.F.Files.failed c.read_log_file.new.files) in
-    let later1 = c.in_ok-licence.ensures.later in
-    let later2 = c.in_ok-options.ensures.later in
-    let later3 = c.in_err-log.ensures.later in
-    rw (p.1, p.2) (audited c.args.report _ _ _ _ _ _ (run_third hears_log (owes_verdict c.args.report) _ _ _ _ _ l.reading o.reading s.reading c.in_ok-licence.licence c.in_ok-options.options
-    (wider _ _ _ _ l.reading refl (rises f0 f0 f1 f3 (omega arith) (omega (arith, later2, later3))) l.is)
-    (wider _ _ _ _ o.reading (c.in_ok-licence.ensures.same c.args.options.now) (rises f0 f1 f2 f3 later1 later3) o.is)
-    (wider _ _ _ _ s.reading (c.in_ok-options.ensures.same c.args.log.now ∙ c.in_ok-licence.ensures.same c.args.log.now) (rises f0 f2 f3 f3 (omega (arith, later1, later2)) (omega arith)) s.is)
-    l.says o.says (rw c.pools.ensures.pools at (refusal_wider _ _ _ _ (rises f0 f2 f3 f3 (omega (arith, later1, later2)) (omega arith)) s.says))))
+    let none = begins (audit_hears c.args.report) (g.F.Files.contents c.args.files.now) (length (g.F.Files.failed c.args.files.now)) in
+    let licence = accepted _ _ none c.in_ok-licence.ensures.same c.in_ok-licence.ensures.later c.in_ok-licence.ensures.says in
+    let options = accepted _ _ licence c.in_ok-options.ensures.same c.in_ok-options.ensures.later c.in_ok-options.ensures.says in
+    rw (p.1, p.2) (audit_done (refused _ _ _ options c.in_err-log.ensures.later (rw c.pools.ensures.pools at c.in_err-log.ensures.says)) (refl, refl))
 
 pub returns-in_err-sets-clause-says : goal.returns-in_err-sets-clause-says
 returns-in_err-sets-clause-says g c =
     let p = err_from_is_err_and c.from_residual-in_err-sets.result c.from_residual-in_err-sets.ensures.1 in
-    let l = c.in_ok-licence.ensures.says in
-    let o = c.in_ok-options.ensures.says in
-    let s = c.in_ok-log.ensures.says in
-    let m = c.in_err-sets.ensures.says in
-    let f0 = length (g.F.Files.failed c.args.files.now) in
-    let f1 = length (g.F.Files.failed c.read_licence_file.new.files) in
-    let f2 = length (g.F.Files.failed c.read_options_file.new.files) in
-    let f3 = length (g.F.Files.failed c.read_log_file.new.files) in
-    let f4 = length (g.F.Files.failed c.read_sets.new.files) in
-    let later1 = c.in_ok-licence.ensures.later in
-    let later2 = c.in_ok-options.ensures.later in
-    let later3 = c.in_ok-log.ensures.later in
-    let later4 = c.in_err-sets.ensures.later in
-    let same3 = c.in_ok-log.ensures.same in
-    let same2 = c.in_ok-options.ensures.same in
-    let same1 = c.in_ok-licence.ensures.same in
-    let contents0 = g.F.Files.contents c.args.files.now in
-    let contents3 = g.F.Files.contents c.read_log_file.new.files in
-    let told = same_told (λ n. contents3 (string_bytes n)) (λ n. contents0 (string_bytes n)) c.args.further.now (λ n. same3 (string_bytes n) ∙ (same2 (string_bytes n) ∙ same1 (string_bytes n))) in
-    let wide = rises f0 f3 f4 f4 (omega (arith, later1, later2, later3)) (omega arith) in
-    rw (p.1, p.2) (audited c.args.report _ _ _ _ _ _ (run_fourth hears_log (owes_verdict c.args.report) _ _ _ _ _ l.reading o.reading s.reading m.readings c.in_ok-licence.licence c.in_ok-options.options c.in_ok-log.log.items
-    (wider _ _ _ _ l.reading refl (rises f0 f0 f1 f4 (omega arith) (omega (arith, later2, later3, later4))) l.is)
-    (wider _ _ _ _ o.reading (same1 c.args.options.now) (rises f0 f1 f2 f4 later1 (omega (arith, later3, later4))) o.is)
-    (wider _ _ _ _ s.reading (same2 c.args.log.now ∙ same1 c.args.log.now) (rises f0 f2 f3 f4 (omega (arith, later1, later2)) later4) s.is)
-    (wider_told _ _ _ _ m.readings told wide m.are)
-    l.says o.says (rw c.pools.ensures.pools at s.says) (refusal_wider _ _ _ _ wide m.says)))
+    let none = begins (audit_hears c.args.report) (g.F.Files.contents c.args.files.now) (length (g.F.Files.failed c.args.files.now)) in
+    let licence = accepted _ _ none c.in_ok-licence.ensures.same c.in_ok-licence.ensures.later c.in_ok-licence.ensures.says in
+    let options = accepted _ _ licence c.in_ok-options.ensures.same c.in_ok-options.ensures.later c.in_ok-options.ensures.says in
+    let log = accepted _ _ options c.in_ok-log.ensures.same c.in_ok-log.ensures.later (rw c.pools.ensures.pools at c.in_ok-log.ensures.says) in
+    rw (p.1, p.2) (audit_done (several _ string_bytes _ log c.in_err-sets.ensures.later c.in_err-sets.ensures.says) (refl, refl))
 
 pub returns-clause-says : goal.returns-clause-says
 returns-clause-says g c =
-    let l = c.in_ok-licence.ensures.says in
-    let o = c.in_ok-options.ensures.says in
-    let s = c.in_ok-log.ensures.says in
-    let m = c.in_ok-sets.ensures.says in
-    let f0 = length (g.F.Files.failed c.args.files.now) in
-    let f1 = length (g.F.Files.failed c.read_licence_file.new.files) in
-    let f2 = length (g.F.Files.failed c.read_options_file.new.files) in
-    let f3 = length (g.F.Files.failed c.read_log_file.new.files) in
-    let f4 = length (g.F.Files.failed c.read_sets.new.files) in
-    let later1 = c.in_ok-licence.ensures.later in
-    let later2 = c.in_ok-options.ensures.later in
-    let later3 = c.in_ok-log.ensures.later in
-    let later4 = c.in_ok-sets.ensures.later in
-    let same3 = c.in_ok-log.ensures.same in
-    let same2 = c.in_ok-options.ensures.same in
-    let same1 = c.in_ok-licence.ensures.same in
-    let contents0 = g.F.Files.contents c.args.files.now in
-    let contents3 = g.F.Files.contents c.read_log_file.new.files in
-    let told = same_told (λ n. contents3 (string_bytes n)) (λ n. contents0 (string_bytes n)) c.args.further.now (λ n. same3 (string_bytes n) ∙ (same2 (string_bytes n) ∙ same1 (string_bytes n))) in
-    let wide = rises f0 f3 f4 f4 (omega (arith, later1, later2, later3)) (omega arith) in
-    audited c.args.report _ _ _ _ _ _ (run_last hears_log (owes_verdict c.args.report) _ _ _ _ _ _ l.reading o.reading s.reading m.readings c.in_ok-licence.licence c.in_ok-options.options c.in_ok-log.log.items c.in_ok-sets.sets.items
-    (wider _ _ _ _ l.reading refl (rises f0 f0 f1 f4 (omega arith) (omega (arith, later2, later3, later4))) l.is)
-    (wider _ _ _ _ o.reading (same1 c.args.options.now) (rises f0 f1 f2 f4 later1 (omega (arith, later3, later4))) o.is)
-    (wider _ _ _ _ s.reading (same2 c.args.log.now ∙ same1 c.args.log.now) (rises f0 f2 f3 f4 (omega (arith, later1, later2)) later4) s.is)
-    (wider_told _ _ _ _ m.readings told wide m.are)
-    l.says o.says (rw c.pools.ensures.pools at s.says) m.says
-    (rw (c.as_slice.ensures.value, c.as_slice-2.ensures.value) at c.write_audit.ensures))
+    let none = begins (audit_hears c.args.report) (g.F.Files.contents c.args.files.now) (length (g.F.Files.failed c.args.files.now)) in
+    let licence = accepted _ _ none c.in_ok-licence.ensures.same c.in_ok-licence.ensures.later c.in_ok-licence.ensures.says in
+    let options = accepted _ _ licence c.in_ok-options.ensures.same c.in_ok-options.ensures.later c.in_ok-options.ensures.says in
+    let log = accepted _ _ options c.in_ok-log.ensures.same c.in_ok-log.ensures.later (rw c.pools.ensures.pools at c.in_ok-log.ensures.says) in
+    audit_done (several _ string_bytes _ log c.in_ok-sets.ensures.later c.in_ok-sets.ensures.says)
+    (rw (c.as_slice.ensures.value, c.as_slice-2.ensures.value) at c.write_audit.ensures)
 
 pub returns-in_err-licence-clause-asked : goal.returns-in_err-licence-clause-asked
 returns-in_err-licence-clause-asked g c =

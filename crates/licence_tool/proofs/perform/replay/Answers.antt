@@ -1,112 +1,48 @@
-use Rattle.std.proofs.Common.{length, refl, ◌∙◌, arith, string_bytes}
+use Rattle.std.proofs.Common.{length, string_bytes}
 use Rattle.std.proofs.lemmas.Result.{err_from_is_err_and}
 use Rattle.licence_tool.proofs.Asking.{join, stop, wrote_text}
-use Rattle.licence_tool.proofs.Checks.{wider, wider_told}
-use Rattle.licence_tool.proofs.Hearing.{refusal_wider}
-use Rattle.licence_tool.proofs.Replays.{replay_first, replay_fourth, replay_last, replay_second, replay_third}
-use Rattle.licence_tool.proofs.Runs.{rises}
-use Rattle.licence_tool.proofs.Sets.{same_told}
+use Rattle.licence_tool.proofs.Readings.{accepted, begins, refused, several}
+use Rattle.licence_tool.proofs.Replays.{accepted_heard, replay_hears, replay_refused, replay_written}
 use Rattle.licence_tool.proofs.perform.replay.Goals as goal
 
 pub returns-in_err-licence-clause-says : goal.returns-in_err-licence-clause-says
 returns-in_err-licence-clause-says g c =
     let p = err_from_is_err_and c.from_residual.result c.from_residual.ensures.1 in
-    let l = c.in_err-licence.ensures.says in
-    rw (p.1, p.2) (replay_first _ _ _ _ _ _ l.reading l.is l.says)
+    let none = begins (replay_hears c.args.report) (g.F.Files.contents c.args.files.now) (length (g.F.Files.failed c.args.files.now)) in
+    rw (p.1, p.2) (replay_refused (refused _ _ _ none c.in_err-licence.ensures.later c.in_err-licence.ensures.says))
 
 pub returns-in_err-options-clause-says : goal.returns-in_err-options-clause-says
 returns-in_err-options-clause-says g c =
     let p = err_from_is_err_and c.from_residual-in_err-options.result c.from_residual-in_err-options.ensures.1 in
-    let l = c.in_ok-licence.ensures.says in
-    let o = c.in_err-options.ensures.says in
-    let f0 = length (g.F.Files.failed c.args.files.now) in
-    let f1 = length (g.F.Files.failed c.read_licence_file.new.files) in
-    let f2 = length (g.F.Files.failed c.read_options_file.new.files) in
-    let later1 = c.in_ok-licence.ensures.later in
-    let later2 = c.in_err-options.ensures.later in
-    rw (p.1, p.2) (replay_second _ _ _ _ _ _ l.reading o.reading c.in_ok-licence.licence
-    (wider _ _ _ _ l.reading refl (rises f0 f0 f1 f2 (omega arith) later2) l.is)
-    (wider _ _ _ _ o.reading (c.in_ok-licence.ensures.same c.args.options.now) (rises f0 f1 f2 f2 later1 (omega arith)) o.is)
-    l.says (refusal_wider _ _ _ _ (rises f0 f1 f2 f2 later1 (omega arith)) o.says))
+    let none = begins (replay_hears c.args.report) (g.F.Files.contents c.args.files.now) (length (g.F.Files.failed c.args.files.now)) in
+    let licence = accepted _ _ none c.in_ok-licence.ensures.same c.in_ok-licence.ensures.later c.in_ok-licence.ensures.says in
+    rw (p.1, p.2) (replay_refused (refused _ _ _ licence c.in_err-options.ensures.later c.in_err-options.ensures.says))
 
 pub returns-in_err-script-clause-says : goal.returns-in_err-script-clause-says
 returns-in_err-script-clause-says g c =
     let p = err_from_is_err_and c.from_residual-in_err-script.result c.from_residual-in_err-script.ensures.1 in
-    let l = c.in_ok-licence.ensures.says in
-    let o = c.in_ok-options.ensures.says in
-    let s = c.in_err-script.ensures.says in
-    let f0 = length (g.F.Files.failed c.args.files.now) in
-    let f1 = length (g.F.Files.failed c.read_licence_file.new.files) in
-    let f2 = length (g.F.Files.failed c.read_options_file.new.files) in
-    let f3 = length (g.F.Files.failed c.read_script_file.new.files) in
-    let later1 = c.in_ok-licence.ensures.later in
-    let later2 = c.in_ok-options.ensures.later in
-    let later3 = c.in_err-script.ensures.later in
-    rw (p.1, p.2) (replay_third _ _ _ _ _ _ l.reading o.reading s.reading c.in_ok-licence.licence c.in_ok-options.options
-    (wider _ _ _ _ l.reading refl (rises f0 f0 f1 f3 (omega arith) (omega (arith, later2, later3))) l.is)
-    (wider _ _ _ _ o.reading (c.in_ok-licence.ensures.same c.args.options.now) (rises f0 f1 f2 f3 later1 later3) o.is)
-    (wider _ _ _ _ s.reading (c.in_ok-options.ensures.same c.args.script.now ∙ c.in_ok-licence.ensures.same c.args.script.now) (rises f0 f2 f3 f3 (omega (arith, later1, later2)) (omega arith)) s.is)
-    l.says o.says (refusal_wider _ _ _ _ (rises f0 f2 f3 f3 (omega (arith, later1, later2)) (omega arith)) s.says))
+    let none = begins (replay_hears c.args.report) (g.F.Files.contents c.args.files.now) (length (g.F.Files.failed c.args.files.now)) in
+    let licence = accepted _ _ none c.in_ok-licence.ensures.same c.in_ok-licence.ensures.later c.in_ok-licence.ensures.says in
+    let options = accepted _ _ licence c.in_ok-options.ensures.same c.in_ok-options.ensures.later c.in_ok-options.ensures.says in
+    rw (p.1, p.2) (replay_refused (refused _ _ _ options c.in_err-script.ensures.later c.in_err-script.ensures.says))
 
 pub returns-in_err-sets-clause-says : goal.returns-in_err-sets-clause-says
 returns-in_err-sets-clause-says g c =
     let p = err_from_is_err_and c.from_residual-in_err-sets.result c.from_residual-in_err-sets.ensures.1 in
-    let l = c.in_ok-licence.ensures.says in
-    let o = c.in_ok-options.ensures.says in
-    let s = c.in_ok-script.ensures.says in
-    let m = c.in_err-sets.ensures.says in
-    let f0 = length (g.F.Files.failed c.args.files.now) in
-    let f1 = length (g.F.Files.failed c.read_licence_file.new.files) in
-    let f2 = length (g.F.Files.failed c.read_options_file.new.files) in
-    let f3 = length (g.F.Files.failed c.read_script_file.new.files) in
-    let f4 = length (g.F.Files.failed c.read_sets.new.files) in
-    let later1 = c.in_ok-licence.ensures.later in
-    let later2 = c.in_ok-options.ensures.later in
-    let later3 = c.in_ok-script.ensures.later in
-    let later4 = c.in_err-sets.ensures.later in
-    let same3 = c.in_ok-script.ensures.same in
-    let same2 = c.in_ok-options.ensures.same in
-    let same1 = c.in_ok-licence.ensures.same in
-    let contents0 = g.F.Files.contents c.args.files.now in
-    let contents3 = g.F.Files.contents c.read_script_file.new.files in
-    let told = same_told (λ n. contents3 (string_bytes n)) (λ n. contents0 (string_bytes n)) c.args.more.now (λ n. same3 (string_bytes n) ∙ (same2 (string_bytes n) ∙ same1 (string_bytes n))) in
-    let wide = rises f0 f3 f4 f4 (omega (arith, later1, later2, later3)) (omega arith) in
-    rw (p.1, p.2) (replay_fourth _ _ _ _ _ _ l.reading o.reading s.reading m.readings c.in_ok-licence.licence c.in_ok-options.options c.in_ok-script.script.items
-    (wider _ _ _ _ l.reading refl (rises f0 f0 f1 f4 (omega arith) (omega (arith, later2, later3, later4))) l.is)
-    (wider _ _ _ _ o.reading (same1 c.args.options.now) (rises f0 f1 f2 f4 later1 (omega (arith, later3, later4))) o.is)
-    (wider _ _ _ _ s.reading (same2 c.args.script.now ∙ same1 c.args.script.now) (rises f0 f2 f3 f4 (omega (arith, later1, later2)) later4) s.is)
-    (wider_told _ _ _ _ m.readings told wide m.are)
-    l.says o.says s.says (refusal_wider _ _ _ _ wide m.says))
+    let none = begins (replay_hears c.args.report) (g.F.Files.contents c.args.files.now) (length (g.F.Files.failed c.args.files.now)) in
+    let licence = accepted _ _ none c.in_ok-licence.ensures.same c.in_ok-licence.ensures.later c.in_ok-licence.ensures.says in
+    let options = accepted _ _ licence c.in_ok-options.ensures.same c.in_ok-options.ensures.later c.in_ok-options.ensures.says in
+    let script = accepted _ _ options c.in_ok-script.ensures.same c.in_ok-script.ensures.later c.in_ok-script.ensures.says in
+    rw (p.1, p.2) (replay_refused (several _ string_bytes _ script c.in_err-sets.ensures.later c.in_err-sets.ensures.says))
 
 pub returns-clause-says : goal.returns-clause-says
 returns-clause-says g c =
-    let l = c.in_ok-licence.ensures.says in
-    let o = c.in_ok-options.ensures.says in
-    let s = c.in_ok-script.ensures.says in
-    let m = c.in_ok-sets.ensures.says in
-    let f0 = length (g.F.Files.failed c.args.files.now) in
-    let f1 = length (g.F.Files.failed c.read_licence_file.new.files) in
-    let f2 = length (g.F.Files.failed c.read_options_file.new.files) in
-    let f3 = length (g.F.Files.failed c.read_script_file.new.files) in
-    let f4 = length (g.F.Files.failed c.read_sets.new.files) in
-    let later1 = c.in_ok-licence.ensures.later in
-    let later2 = c.in_ok-options.ensures.later in
-    let later3 = c.in_ok-script.ensures.later in
-    let later4 = c.in_ok-sets.ensures.later in
-    let same3 = c.in_ok-script.ensures.same in
-    let same2 = c.in_ok-options.ensures.same in
-    let same1 = c.in_ok-licence.ensures.same in
-    let contents0 = g.F.Files.contents c.args.files.now in
-    let contents3 = g.F.Files.contents c.read_script_file.new.files in
-    let told = same_told (λ n. contents3 (string_bytes n)) (λ n. contents0 (string_bytes n)) c.args.more.now (λ n. same3 (string_bytes n) ∙ (same2 (string_bytes n) ∙ same1 (string_bytes n))) in
-    let wide = rises f0 f3 f4 f4 (omega (arith, later1, later2, later3)) (omega arith) in
-    replay_last _ _ _ _ _ _ _ l.reading o.reading s.reading m.readings c.in_ok-licence.licence c.in_ok-options.options c.in_ok-script.script.items c.in_ok-sets.sets.items
-    (wider _ _ _ _ l.reading refl (rises f0 f0 f1 f4 (omega arith) (omega (arith, later2, later3, later4))) l.is)
-    (wider _ _ _ _ o.reading (same1 c.args.options.now) (rises f0 f1 f2 f4 later1 (omega (arith, later3, later4))) o.is)
-    (wider _ _ _ _ s.reading (same2 c.args.script.now ∙ same1 c.args.script.now) (rises f0 f2 f3 f4 (omega (arith, later1, later2)) later4) s.is)
-    (wider_told _ _ _ _ m.readings told wide m.are)
-    l.says o.says s.says m.says (rw (c.as_slice.ensures.value, c.as_slice-2.ensures.value) at c.write_replay.ensures.histories)
-    (rw (c.as_slice.ensures.value, c.as_slice-2.ensures.value) at c.write_replay.ensures.says)
+    let none = begins accepted_heard (g.F.Files.contents c.args.files.now) (length (g.F.Files.failed c.args.files.now)) in
+    let licence = accepted _ _ none c.in_ok-licence.ensures.same c.in_ok-licence.ensures.later c.in_ok-licence.ensures.says in
+    let options = accepted _ _ licence c.in_ok-options.ensures.same c.in_ok-options.ensures.later c.in_ok-options.ensures.says in
+    let script = accepted _ _ options c.in_ok-script.ensures.same c.in_ok-script.ensures.later c.in_ok-script.ensures.says in
+    replay_written (several _ string_bytes _ script c.in_ok-sets.ensures.later c.in_ok-sets.ensures.says)
+    (rw (c.as_slice.ensures.value, c.as_slice-2.ensures.value) at c.write_replay.ensures.histories) (rw (c.as_slice.ensures.value, c.as_slice-2.ensures.value) at c.write_replay.ensures.says)
 
 pub returns-in_err-licence-clause-asked : goal.returns-in_err-licence-clause-asked
 returns-in_err-licence-clause-asked g c =

@@ -1,12 +1,9 @@
-use Rattle.std.proofs.Common.{◌+◌, ◌≡◌, ◌∙◌, map, string_bytes, refl, arith, length}
+use Rattle.std.proofs.Common.{◌+◌, ◌≡◌, map, string_bytes, refl, arith, length}
 use Rattle.std.proofs.lemmas.Result.{err_from_is_err_and}
 use Rattle.std.proofs.lemmas.List.{length-map}
 use Rattle.licence_tool.specs.Outcome.{position_of_set}
 use Rattle.licence_tool.proofs.Asking.{further, further_forgotten, further_position, further_read, further_refused, none_asked}
-use Rattle.licence_tool.proofs.Checks.{wider}
-use Rattle.licence_tool.proofs.Hearing.{refusal_wider}
-use Rattle.licence_tool.proofs.Runs.{rises}
-use Rattle.licence_tool.proofs.Sets.{told_one_more, within_map, all_heard, one_more, one_refused, sets_without_memory}
+use Rattle.licence_tool.proofs.Sets.{told_one_more, within_map, all_heard, none_heard, one_more, one_refused, sets_without_memory}
 use Rattle.licence_tool.proofs.reading.read_sets.Goals as goal
 
 pub returns-in_err-push-clause-says : goal.returns-in_err-push-clause-says
@@ -22,44 +19,32 @@ returns-in_err-push-2-clause-says g c =
 pub returns-in_err-further-clause-says : goal.returns-in_err-further-clause-says
 returns-in_err-further-clause-says g c =
     let p = err_from_is_err_and c.from_residual-in_err-further.result c.from_residual-in_err-further.ensures.1 in
-    let r = c.in_err-further.ensures.says in
-    let f0 = length (g.F.Files.failed c.args.files.now) in
-    let f1 = length (g.F.Files.failed c.loop-name.files) in
-    let f2 = length (g.F.Files.failed c.read_options_file.new.files) in
-    let name = c.name-item.result in
     let place : c.len.result ≡ length c.loop-name.sets.items = omega (arith, c.len.ensures, c.loop-name.sets.ok.0) in
-    rw (p.1, p.2) (one_refused (λ v. v.items) (λ n. g.F.Files.contents c.args.files.now (string_bytes n)) c.args.names.now _ _ c.loop-name.name-index name c.args.options c.loop-name.sets.items r.reading _ c.len.result
-    c.loop-name.invariant.heard (rises f0 f0 f1 f2 (omega arith) c.in_err-further.ensures.later) c.loop-name-test.true c.name-item.is
-    (wider _ _ _ _ r.reading (rw c.as_str.ensures.value (c.loop-name.invariant.same (string_bytes name))) (rises f0 f1 f2 f2 c.loop-name.invariant.later (omega arith)) r.is)
-    place (refusal_wider _ _ _ _ (rises f0 f1 f2 f2 c.loop-name.invariant.later (omega arith)) r.says))
+    rw (p.1, p.2) (one_refused c.name-item.result c.loop-name.invariant.heard c.loop-name-test.true c.name-item.is place
+    c.in_err-further.ensures.later (rw c.as_str.ensures.value at c.in_err-further.ensures.says))
+
+pub loop-name-init : goal.loop-name-init
+loop-name-init g c = record {
+  heard = rw (c.in_ok-push.ensures.items, c.new-sets.ensures.items) (none_heard string_bytes _ _ _ _);
+  asked = none_asked 4 _ _ _ _ refl refl;
+}
 
 pub loop-name-preserved : goal.loop-name-preserved
 loop-name-preserved g c = record {
   heard =
-      let r = c.in_ok-further.ensures.says in
-      let f0 = length (g.F.Files.failed c.args.files.now) in
-      let f1 = length (g.F.Files.failed c.loop-name.files) in
-      let f2 = length (g.F.Files.failed c.read_options_file.new.files) in
-      let name = c.name-item.result in
       let place : c.len.result ≡ length c.loop-name.sets.items = omega (arith, c.len.ensures, c.loop-name.sets.ok.0) in
-      rw c.in_ok-push-2.ensures.items (one_more (λ n. g.F.Files.contents c.args.files.now (string_bytes n)) c.args.names.now _ _ c.loop-name.name-index name c.args.options c.loop-name.sets.items r.reading c.in_ok-further.further c.len.result
-      c.loop-name.invariant.heard (rises f0 f0 f1 f2 (omega arith) c.in_ok-further.ensures.later) c.loop-name-test.true c.name-item.is
-      (wider _ _ _ _ r.reading (rw c.as_str.ensures.value (c.loop-name.invariant.same (string_bytes name))) (rises f0 f1 f2 f2 c.loop-name.invariant.later (omega arith)) r.is)
-      place r.says);
+      rw c.in_ok-push-2.ensures.items (one_more c.name-item.result c.in_ok-further.further c.loop-name.invariant.heard c.loop-name-test.true c.name-item.is place
+      c.in_ok-further.ensures.same c.in_ok-further.ensures.later (rw c.as_str.ensures.value at c.in_ok-further.ensures.says));
   asked =
       let name = c.name-item.result in
       let place : c.len.result ≡ 1 + c.loop-name.name-index = omega (arith, c.len.ensures, c.loop-name.sets.ok.0, c.loop-name.invariant.heard.size) in
       further (map string_bytes c.args.names.now) _ _ _ _ _ _ c.loop-name.name-index (position_of_set c.len.result) (string_bytes name) _ c.loop-name.invariant.asked (rw c.as_str.ensures.value at c.in_ok-further.ensures.asked)
       (further_position c.len.result c.loop-name.name-index place) (within_map string_bytes c.args.names.now c.loop-name.name-index c.loop-name-test.true)
       (told_one_more string_bytes c.args.names.now c.loop-name.name-index name c.loop-name-test.true c.name-item.is);
-  later = omega (arith, c.loop-name.invariant.later, c.in_ok-further.ensures.later);
-  same = λ other. c.in_ok-further.ensures.same other ∙ c.loop-name.invariant.same other;
 }
 
 pub returns-clause-says : goal.returns-clause-says
-returns-clause-says g c =
-    all_heard (λ v. v.items) _ _ c.loop-name.name-index c.args.options c.loop-name.sets c.loop-name.invariant.heard
-    (omega (arith, length-map c.args.names.now (λ n. g.F.Files.contents c.args.files.now (string_bytes n)), c.loop-name-test.false))
+returns-clause-says g c = all_heard (λ v. v.items) c.loop-name.sets c.loop-name.invariant.heard c.loop-name-test.false
 
 pub returns-in_err-push-clause-asked : goal.returns-in_err-push-clause-asked
 returns-in_err-push-clause-asked g c =
