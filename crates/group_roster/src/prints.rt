@@ -98,7 +98,7 @@ impl Prints {
         }
     }
 
-    /// A place to which a name of this print leads, by a search through all of them.
+    /// A place to which a name of this print leads, by a search by halves among all of them.
     fn searched(&self, print: u64) -> Option<usize>
         ensures found { IfSome result (λ place. list_any (is_entry print place) self.now ≡ true) }
         ensures none { IfNone result (list_any (λ e. e.print == print) self.now ≡ false) }

@@ -21,7 +21,7 @@ use feature_lines::{Licence, Pool};
 use kex_net::tree;
 use lic_types::PARTY_LIMIT;
 use no_memory::NoMemory;
-use office_view::OfficeView;
+use office_view::{OfficeView, PoolList};
 use options_text::Options;
 use policy::DeskRules;
 use std::alloc::Global;
@@ -161,7 +161,7 @@ impl Office {
         ensures logs { IfOk result (λ made. AreLogsOf made.2 made.0) }
     {
         let pools = licence.pools();
-        let listed = Vec::from_slice(alloc, pools)?;
+        let listed = PoolList::of(alloc, Vec::from_slice(alloc, pools)?)?;
         let mut passes = rooms(alloc, parties, pools.len())?;
         let told = OfficeEnd::room(alloc, pools.len())?;
         let ends = Vec::with_capacity(alloc, pools.len())?;

@@ -1,18 +1,23 @@
 //! The pools of a licence with one desk each, as a session sees them.
 #![tactic(auto)]
 
-ghost use Rattle.std.specs.Prelude.{◌≡◌, ◌<◌, IfSome, get_or, length, vec_len};
-ghost use Rattle.feature_lines.specs.Route.{IsThere, route};
-ghost use Rattle.office_view.specs.View.{first_named};
+mod chains;
+mod pool_list;
 
-use feature_lines::{Found, Pool, find_pool};
+ghost use Rattle.std.specs.Prelude.{◌≡◌, ◌<◌, ◌+◌, IfSome, get_or, length, vec_len};
+ghost use Rattle.feature_lines.specs.Route.{IsThere, route};
+ghost use Rattle.feature_lines.specs.declared.pool.Pool.{Pool};
+ghost use Rattle.office_view.specs.View.{first_named, named_from};
+
+use feature_lines::{Found, Pool};
 use lic_types::{Name, Version};
+pub use pool_list::PoolList;
 use std::marker::Model;
 
 /// The pools in the order of the licence file, one desk for each, and the number of rule sets that each desk has.
 #[derive(Drop)]
 pub struct OfficeView<D> {
-    pools: Vec<Pool>,
+    pools: PoolList,
     desks: Vec<D>,
     sets: u32,
 }
@@ -22,16 +27,16 @@ impl<D> Model for OfficeView<D> {
 
     ghost Value = { View D };
 
-    ghost view = { λ o. record { pools = o.pools.items; desks = o.desks.items; sets = o.sets } };
+    ghost view = { λ o. record { pools = o.pools; desks = o.desks.items; sets = o.sets } };
 
-    ghost invariant = { λ o. IsView o.pools.items o.desks.items };
+    ghost invariant = { λ o. IsView o.pools o.desks.items };
 }
 
 impl<D> OfficeView<D> {
     /// These pools and these desks.
-    pub fn of(pools: Vec<Pool>, desks: Vec<D>, sets: u32) -> OfficeView<D>
-        requires { vec_len pools ≡ vec_len desks }
-        ensures { result ≡ record { pools = pools.items; desks = desks.items; sets = sets } }
+    pub fn of(pools: PoolList, desks: Vec<D>, sets: u32) -> OfficeView<D>
+        requires { length pools ≡ vec_len desks }
+        ensures { result ≡ record { pools = pools; desks = desks.items; sets = sets } }
     {
         OfficeView { pools, desks, sets }
     }
@@ -67,12 +72,20 @@ impl<D> OfficeView<D> {
     }
 
     /// The first pool of a name.
-    #[tactic(auto, using(crate::proofs::Found::some_there))]
     pub fn first(&self, name: &Name) -> Option<usize>
         ensures first { result ≡ first_named self.now.pools name.now }
         ensures there { IfSome result (λ i. i < length self.now.pools) }
     {
-        self.pools.iter().position(|pool| pool.name == *name)
+        self.pools.first(name)
+    }
+
+    /// The next pool that has the name of the one at this place.
+    pub fn next(&self, i: usize) -> Option<usize>
+        requires { i < length self.now.pools }
+        ensures next { (p : Pool) → result ≡ named_from self.now.pools (get_or self.now.pools i p).name (i + 1) }
+        ensures there { IfSome result (λ j. j < length self.now.pools) }
+    {
+        self.pools.next(i)
     }
 
     /// The pool that serves a checkout at a moment, in seconds since 1970-01-01 UTC.
@@ -80,6 +93,6 @@ impl<D> OfficeView<D> {
         ensures found { result ≡ route self.now.pools name.now version.key moment }
         ensures there { IsThere (length self.now.pools) result }
     {
-        find_pool(self.pools.as_slice(), name, version, moment)
+        self.pools.route(name, version, moment)
     }
 }

@@ -185,8 +185,8 @@ impl ChosenLines {
         &lines[self.places[i]]
     }
 
-    /// The number of the first that speaks of the client. Where none has a name of the client's, which is looked up in as
-    /// many steps as the number of lines has bits, those alone are gone through that name a group.
+    /// The number of the first that speaks of the client. Where none has a name of the client's, which one look at each
+    /// name mostly tells, those alone are gone through that name a group.
     pub(crate) fn first_applying(&self, groups: &Roster, client: &Client) -> Option<u32>
         ensures { result ≡ option_map number_of_line (find (applies groups.now client.now) self.now) }
     {

@@ -81,12 +81,6 @@ same_at whom o before new j e =
     let es : entries j (before ++ new) ≡ entries j before = entries_append j before new ∙ ap (λ (l : List Asking). entries j before ++ map (λ (a : Asking). a.entry) l) e ∙ append-nil (entries j before) in
     ap (λ (l : List Entry). is_meant whom (holds l (party_at o j)) (queues l (party_at o j))) es
 
--- the same of the pools that a session keeps
-pub keeps_is : {C : Type 0} (account : C → Account) (o : Setup) (ps : List Rattle.feature_lines.specs.declared.pool.Pool.Pool) (before : List Act) (xs : List C) (whom : Whom) (j : ℕ) (c : C) → Rattle.session.specs.Finding.Keeps account o ps before xs → j < length xs → is_meant_at whom (account (get_or xs j c)) ≡ is_desk_meant whom o before j
-keeps_is account o ps before xs whom j c h below =
-    let s = h.each j c below in
-    ap (λ b. is_meant whom b (queues (account (get_or xs j c)).mine (account (get_or xs j c)).party)) s.holds ∙ ap (λ b. is_meant whom (is_holding_at o before j) b) s.queues
-
 -- at the opening nothing is kept
 pub agrees_opening : {C D : Type 0} (account : C → Account) (v : View D) (cs : List C) → AreIdle account cs → Agrees account v (setup_of account v cs) [] cs
 agrees_opening {C} account v cs idle = record {

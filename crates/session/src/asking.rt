@@ -90,7 +90,7 @@ pub(crate) fn glance_at<C: Counter>(
 }
 
 /// Whether a desk is meant.
-fn is_meant<C: Counter>(whom: Whom, counter: &C) -> bool
+pub(crate) fn is_meant<C: Counter>(whom: Whom, counter: &C) -> bool
     ensures { result ≡ Rattle.session.specs.Asks.is_meant_at whom (C.account counter.now) }
 {
     whom.is_meant(counter.holding(), counter.queued())

@@ -9,7 +9,7 @@ ghost use Rattle.session_rows.specs.Office.{IsManned};
 use crate::{LoggedBook, TurnCounter};
 use feature_lines::Pool;
 use lic_types::{Client, Expiry, Name, Version};
-use office_view::OfficeView;
+use office_view::{OfficeView, PoolList};
 use options_machine::{Entry, Kind, Request};
 use options_text::read_options;
 use policy::{DeskRules, PlainBook, are_sets};
@@ -150,7 +150,7 @@ impl Site {
         let free = first_free(sets.as_slice());
         let many = sets.len() as u32;
         let (desk, first, other) = new_desk(rt.alloc(), sets)?;
-        let pools = only(rt.alloc(), pool(count)?)?;
+        let pools = PoolList::of(rt.alloc(), only(rt.alloc(), pool(count)?)?)?;
         let desks = only(rt.alloc(), desk)?;
         let counters = only(rt.alloc(), TurnCounter::of(first, free))?;
         Ok(Site {

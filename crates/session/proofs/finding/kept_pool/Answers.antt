@@ -1,31 +1,55 @@
-use Rattle.std.proofs.Common.{◌≡◌, ◌∙◌, ℕ, sym, ap, ◌&&◌, arith, Bool}
+use Rattle.std.proofs.Common.{◌≡◌, ◌<◌, ◌∙◌, ◌+◌, ℕ, Bool, List, Some, None, cond, true, false, length, get_or, ap, sym, arith}
 use Rattle.feature_lines.specs.declared.pool.Pool.{Pool}
-use Rattle.lic_types.specs.Groups.{same_name}
+use Rattle.office_view.specs.View.{named_from}
+use Rattle.office_view.proofs.Searches.{search_at}
 use Rattle.session.specs.Asks.{is_meant_at}
-use Rattle.session.specs.Table.{first_from, is_desk_meant}
+use Rattle.session.specs.Table.{is_desk_meant}
 use Rattle.session.specs.declared.asked.Whom.TheVariants.{Keeping}
-use Rattle.session.proofs.Firsts.{first_found, first_none, first_on}
-use Rattle.session.proofs.Standing.{keeps_is}
+use Rattle.session.proofs.Firsts.{kept_at, kept_by, kept_from, named_next, next_is, next_leaves}
+use Rattle.session.proofs.Standing.{meant_is}
 use Rattle.session.proofs.finding.kept_pool.Goals as goal
 
-pub returns-then-keeps-clause-pool : goal.returns-then-keeps-clause-pool
-returns-then-keeps-clause-pool g c = λ o before h.
-    let test : ℕ → Pool → Bool = λ j p. same_name p.name c.args.name.now && is_desk_meant Keeping o before j in
-    let keep : is_meant_at Keeping (g.C.Counter.account c.index-pass-i.result) ≡ is_desk_meant Keeping o before c.loop-i.i =
-    ap (λ x. is_meant_at Keeping (g.C.Counter.account x)) c.index-pass-i.is ∙ keeps_is g.C.Counter.account o c.args.pools.now before c.args.pass.now Keeping c.loop-i.i c.index-pass-i.result h (omega arith) in
-    first_found test c.loop-i.i c.args.pools.now c.index-pools-i.result c.loop-i-test.true (c.loop-i.invariant o before h)
-    (ap (test c.loop-i.i) (sym c.index-pools-i.is) ∙ ap (λ b. same_name c.index-pools-i.result.name c.args.name.now && b) (sym keep) ∙ sym c.keeps.ensures ∙ c.if-keeps.true)
-    ∙ ap (first_from test 0) (sym h.same)
+pub loop-next-init : goal.loop-next-init
+loop-next-init g c = record {
+  within = c.first-next.ensures.there;
+  named = named_next c.args.office.now.pools c.args.name.now 0 c.first-next.result c.first-next.ensures.first;
+  same = λ o before h. ap (λ (ps : List Pool). kept_from (is_desk_meant Keeping o before) ps c.args.name.now 0) h.pools
+      ∙ kept_by (is_desk_meant Keeping o before) c.args.office.now.pools c.args.name.now 0 c.first-next.result c.first-next.ensures.first;
+}
 
-pub loop-i-preserved : goal.loop-i-preserved
-loop-i-preserved g c = λ o before h.
-    let test : ℕ → Pool → Bool = λ j p. same_name p.name c.args.name.now && is_desk_meant Keeping o before j in
-    let keep : is_meant_at Keeping (g.C.Counter.account c.index-pass-i.result) ≡ is_desk_meant Keeping o before c.loop-i.i =
-    ap (λ x. is_meant_at Keeping (g.C.Counter.account x)) c.index-pass-i.is ∙ keeps_is g.C.Counter.account o c.args.pools.now before c.args.pass.now Keeping c.loop-i.i c.index-pass-i.result h (omega arith) in
-    first_on test c.loop-i.i c.args.pools.now c.index-pools-i.result c.loop-i-test.true (c.loop-i.invariant o before h)
-    (ap (test c.loop-i.i) (sym c.index-pools-i.is) ∙ ap (λ b. same_name c.index-pools-i.result.name c.args.name.now && b) (sym keep) ∙ sym c.keeps.ensures ∙ c.if-keeps.false)
+pub loop-next-smaller : goal.loop-next-smaller
+loop-next-smaller g c =
+    let within : c.in-Some.i < length c.args.office.now.pools = rw c.in-Some.is at c.loop-next.invariant.within in
+    let next : c.next-next.result ≡ named_from c.args.office.now.pools c.args.name.now (c.in-Some.i + 1)
+    = next_is c.args.office.now.pools c.args.name.now c.in-Some.i c.next-next.result within (rw c.in-Some.is at c.loop-next.invariant.named) c.next-next.ensures.next in
+    rw c.in-Some.is (next_leaves c.args.office.now.pools c.args.name.now c.in-Some.i c.next-next.result within next)
 
-pub returns-clause-pool : goal.returns-clause-pool
-returns-clause-pool g c = λ o before h.
-    let test : ℕ → Pool → Bool = λ j p. same_name p.name c.args.name.now && is_desk_meant Keeping o before j in
-    first_none test c.loop-i.i c.args.pools.now (omega arith) (c.loop-i.invariant o before h) ∙ ap (first_from test 0) (sym h.same)
+pub loop-next-preserved : goal.loop-next-preserved
+loop-next-preserved g c =
+    let within : c.in-Some.i < length c.args.office.now.pools = rw c.in-Some.is at c.loop-next.invariant.within in
+    let named : (p : Pool) → (get_or c.args.office.now.pools c.in-Some.i p).name ≡ c.args.name.now = rw c.in-Some.is at c.loop-next.invariant.named in
+    let next : c.next-next.result ≡ named_from c.args.office.now.pools c.args.name.now (c.in-Some.i + 1)
+    = next_is c.args.office.now.pools c.args.name.now c.in-Some.i c.next-next.result within named c.next-next.ensures.next in
+    record {
+      within = c.next-next.ensures.there;
+      named = named_next c.args.office.now.pools c.args.name.now (c.in-Some.i + 1) c.next-next.result next;
+      same = λ o before h.
+          let test : ℕ → Bool = is_desk_meant Keeping o before in
+          let passed : test c.in-Some.i ≡ false
+          = sym (ap (λ x. is_meant_at Keeping (g.C.Counter.account x)) c.index-pass-i.is ∙ meant_is g.C.Counter.account c.args.office.now o before c.args.pass.now Keeping c.in-Some.i c.index-pass-i.result h (omega (arith, within, c.requires))) ∙ sym c.is_meant.ensures ∙ c.if-is_meant.false in
+          c.loop-next.invariant.same o before h ∙ ap (search_at None (kept_from test c.args.office.now.pools c.args.name.now)) c.in-Some.is
+          ∙ kept_at test c.args.office.now.pools c.args.name.now c.in-Some.i within named
+          ∙ ap (λ b. cond b (Some c.in-Some.i) (kept_from test c.args.office.now.pools c.args.name.now (c.in-Some.i + 1))) passed
+          ∙ kept_by test c.args.office.now.pools c.args.name.now (c.in-Some.i + 1) c.next-next.result next;
+    }
+
+pub returns-then-is_meant-clause-pool : goal.returns-then-is_meant-clause-pool
+returns-then-is_meant-clause-pool g c = λ o before h.
+    let within : c.in-Some.i < length c.args.office.now.pools = rw c.in-Some.is at c.loop-next.invariant.within in
+    let test : ℕ → Bool = is_desk_meant Keeping o before in
+    let kept : test c.in-Some.i ≡ true
+    = sym (ap (λ x. is_meant_at Keeping (g.C.Counter.account x)) c.index-pass-i.is ∙ meant_is g.C.Counter.account c.args.office.now o before c.args.pass.now Keeping c.in-Some.i c.index-pass-i.result h (omega (arith, within, c.requires))) ∙ sym c.is_meant.ensures ∙ c.if-is_meant.true in
+    sym
+    (c.loop-next.invariant.same o before h ∙ ap (search_at None (kept_from test c.args.office.now.pools c.args.name.now)) c.in-Some.is
+    ∙ kept_at test c.args.office.now.pools c.args.name.now c.in-Some.i within (rw c.in-Some.is at c.loop-next.invariant.named)
+    ∙ ap (λ b. cond b (Some c.in-Some.i) (kept_from test c.args.office.now.pools c.args.name.now (c.in-Some.i + 1))) kept)
