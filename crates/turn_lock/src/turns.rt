@@ -27,6 +27,10 @@ use std::{hint, mem};
 /// each look.
 const SPINS: u32 = 13;
 
+/// From this round on, after a pause of some seven microseconds, who finds that nobody was served since its last look
+/// sleeps at once: whoever is in was put aside by the system, and who looks on may keep the processor from it.
+const STANDSTILL: u32 = 10;
+
 /// The first sleep, in microseconds. Each further one is twice as long, up to the longest.
 const FIRST_NAP: u64 = 50;
 
@@ -297,6 +301,7 @@ impl<V: Kept> Turns<V> {
         ensures drawn { (p : Pass V.Law V.Request V.Answer) → IsAtRest p seat.old.me
             → (t : ℕ) × (result ≡ t % 2 ^ 64) × (seat.new.me ≡ (seated_view p (Waiting t), [])) }
     {
+        let mut last = 0u64;
         for round in 0..PATIENCE {
             let serving = self.table.shared.peek(SERVING);
             if self.table.shared.peek(TICKET) == serving {
@@ -310,7 +315,8 @@ impl<V: Kept> Turns<V> {
                     return serving;
                 }
             }
-            self.pause(rt, round, serving);
+            self.pause(rt, waiting_round(round, serving == last), serving);
+            last = serving;
         }
         self.table.shared.fetch_add::<Draw>(seat, TICKET, 1)
     }
@@ -445,6 +451,15 @@ impl<L, Q, A> PartyPass<L, Q, A> {
             badge,
         } = self;
         badge.into_seat()
+    }
+}
+
+/// The round of waiting that follows a look: that of a sleep where the last ones were long and nobody was served since.
+fn waiting_round(round: u32, stands_still: bool) -> u32 {
+    if stands_still && STANDSTILL <= round {
+        round.max(SPINS)
+    } else {
+        round
     }
 }
 
