@@ -88,11 +88,14 @@ impl<D> OfficeView<D> {
         self.pools.next(i)
     }
 
-    /// The pool that serves a checkout at a moment, in seconds since 1970-01-01 UTC.
-    pub fn route(&self, name: &Name, version: Version, moment: u64) -> Found
+    /// The pool that serves a checkout at a moment, in seconds since 1970-01-01 UTC. It is looked for from the first of
+    /// the name on, which [`first`](OfficeView::first) told.
+    pub fn route(&self, first: Option<usize>, name: &Name, version: Version, moment: u64) -> Found
+        requires first { first ≡ first_named self.now.pools name.now }
+        requires within { IfSome first (λ i. i < length self.now.pools) }
         ensures found { result ≡ route self.now.pools name.now version.key moment }
         ensures there { IsThere (length self.now.pools) result }
     {
-        self.pools.route(name, version, moment)
+        self.pools.route(first, name, version, moment)
     }
 }

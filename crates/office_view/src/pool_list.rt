@@ -65,12 +65,14 @@ impl PoolList {
     }
 
     /// The pool that serves a checkout at a moment, in seconds since 1970-01-01 UTC. It is looked for from the first of
-    /// the name on.
-    pub fn route(&self, name: &Name, version: Version, moment: u64) -> Found
+    /// the name on, which [`first`](PoolList::first) told.
+    pub fn route(&self, first: Option<usize>, name: &Name, version: Version, moment: u64) -> Found
+        requires first { first ≡ first_named self.now name.now }
+        requires within { IfSome first (λ i. i < length self.now) }
         ensures found { result ≡ route self.now name.now version.key moment }
         ensures there { IsThere (length self.now) result }
     {
-        match self.first(name) {
+        match first {
             None => Found::Unknown,
             Some(first) => match find_pool(&self.pools[first..], name, version, moment) {
                 Found::Pool(i) => Found::Pool(first + i),

@@ -1,5 +1,6 @@
 //! Asking one desk, or several one after another.
 ghost use Rattle.std.specs.Prelude.{◌≡◌, ◌<◌, ◌∷◌, [], List, length};
+ghost use Rattle.std.specs.Option.{option_copied};
 ghost use Rattle.counter.specs.Account.{Asking};
 ghost use Rattle.options_machine.specs.Run.{IsBelow};
 ghost use Rattle.options_machine.specs.Step.{set_asked};
@@ -129,14 +130,14 @@ pub(crate) fn ask_any<R: Wait, C: Counter, K: Clock>(
     clock: &mut K,
     whom: Whom,
     kind: Kind,
-    client: &Option<Client>,
+    client: Option<&Client>,
 )
     requires of { AreOf C.is_of C.account pass.old office.now }
     requires fits { IsBelow (set_asked kind) office.now.sets }
     ensures asked { (o : Setup) (before : List Act) → Agrees C.account office.now o before pass.old →
-        (new : List Act) × AsksOnly C.account K.gave pass.old pass.new clock.old clock.new new × AsksAny whom o before client.now kind new }
+        (new : List Act) × AsksOnly C.account K.gave pass.old pass.new clock.old clock.new new × AsksAny whom o before (option_copied client.entry) kind new }
     ensures of { AreOf C.is_of C.account pass.new office.now }
-    ensures idle { Rattle.session.specs.Asks.LeavesIdleWhere C.account whom kind client.now pass.new }
+    ensures idle { Rattle.session.specs.Asks.LeavesIdleWhere C.account whom kind (option_copied client.entry) pass.new }
 {
     match client {
         None => {}

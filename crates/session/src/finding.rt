@@ -1,5 +1,6 @@
 //! Which pool a request goes to.
-ghost use Rattle.std.specs.Prelude.{◌≡◌, ◌<◌, List, IfSome, length};
+ghost use Rattle.std.specs.Prelude.{◌≡◌, ◌<◌, List, IfErr, IfOk, IfSome, length};
+ghost use Rattle.std.specs.Result.{result_ok};
 ghost use Rattle.office_view.specs.View.{first_named};
 ghost use Rattle.feature_lines.specs.Route.{IsThere};
 ghost use Rattle.session.specs.Acts.{Act};
@@ -13,30 +14,46 @@ use feature_lines::Found;
 use lic_types::{Name, NameRef, Version};
 use office_view::OfficeView;
 
-/// The first pool of the name at which the session is holding or queued.
-fn kept_pool<C: Counter>(office: &OfficeView<C::Desk>, pass: &[C], name: &Name) -> Option<usize>
+/// The first pool of the name at which the session is holding or queued; where there is none, the first pool of the
+/// name comes as the error.
+fn kept_pool<C: Counter>(
+    office: &OfficeView<C::Desk>,
+    pass: &[C],
+    name: &Name,
+) -> Result<usize, Option<usize>>
     requires { length pass.now ≡ length office.now.pools }
-    ensures pool { (o : Setup) (before : List Act) → Agrees C.account office.now o before pass.now → result ≡ kept_pool o before name.now }
-    ensures within { IfSome result (λ i. i < length office.now.pools) }
+    ensures pool { (o : Setup) (before : List Act) → Agrees C.account office.now o before pass.now → result_ok result ≡ kept_pool o before name.now }
+    ensures within { IfOk result (λ i. i < length office.now.pools) }
+    ensures first { IfErr result (λ first. first ≡ first_named office.now.pools name.now) }
+    ensures there { IfErr result (λ first. IfSome first (λ i. i < length office.now.pools)) }
 {
-    let mut next = office.first(name);
+    let first = office.first(name);
+    let mut next = first;
     while let Some(i) = next {
         if is_meant(Whom::Keeping, &pass[i]) {
-            return Some(i);
+            return Ok(i);
         }
         next = office.next(i);
     }
-    None
+    Err(first)
 }
 
-/// Where a request goes whose session keeps no place at a pool of that name.
-fn routed<D>(office: &OfficeView<D>, name: &Name, at: u64, version: Option<Version>) -> Found
+/// Where a request goes whose session keeps no place at a pool of that name, of which this is the first.
+fn routed<D>(
+    office: &OfficeView<D>,
+    first: Option<usize>,
+    name: &Name,
+    at: u64,
+    version: Option<Version>,
+) -> Found
+    requires first { first ≡ first_named office.now.pools name.now }
+    requires within { IfSome first (λ i. i < length office.now.pools) }
     ensures found { result ≡ found_by_route office.now.pools name.now at version }
     ensures there { IsThere (length office.now.pools) result }
 {
     match version {
-        Some(version) => office.route(name, version, at),
-        None => match office.first(name) {
+        Some(version) => office.route(first, name, version, at),
+        None => match first {
             Some(i) => Found::Pool(i),
             None => Found::Unknown,
         },
@@ -57,8 +74,8 @@ pub(crate) fn find<C: Counter>(
 {
     let name = name.name();
     match kept_pool(office, pass, &name) {
-        Some(i) => Found::Pool(i),
-        None => routed(office, &name, at, version),
+        Ok(i) => Found::Pool(i),
+        Err(first) => routed(office, first, &name, at, version),
     }
 }
 
@@ -74,7 +91,7 @@ pub(crate) fn find_shown<C: Counter>(
 {
     let name = name.name();
     match kept_pool(office, pass, &name) {
-        Some(i) => Some(i),
-        None => office.first(&name),
+        Ok(i) => Some(i),
+        Err(first) => first,
     }
 }

@@ -151,7 +151,15 @@ fn turn<R: Wait, C: Counter, L: Link, K: Clock, G: Gate, B: Bell>(
             if bell.rung() {
                 return Some(SessionEnd::Stopped);
             }
-            ask_any(rt, office, pass, clock, Whom::Holding, Kind::Look, client);
+            ask_any(
+                rt,
+                office,
+                pass,
+                clock,
+                Whom::Holding,
+                Kind::Look,
+                client.as_ref(),
+            );
             None
         }
     }
@@ -224,7 +232,15 @@ fn serve<R: Wait, C: Counter, L: Link, K: Clock, G: Gate, B: Bell>(
         &mut client,
         &mut room.piece,
     );
-    ask_any(rt, office, pass, clock, Whom::Keeping, Kind::Quit, &client);
+    ask_any(
+        rt,
+        office,
+        pass,
+        clock,
+        Whom::Keeping,
+        Kind::Quit,
+        client.as_ref(),
+    );
     end
 }
 

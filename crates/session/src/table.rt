@@ -1,5 +1,6 @@
 //! What each request does.
 ghost use Rattle.std.specs.Prelude.{◌≡◌, ◌∷◌, List, [], nat_lt, Some, None};
+ghost use Rattle.std.specs.Option.{option_copied};
 ghost use Rattle.line_protocol.specs.Requests.{request_of};
 ghost use Rattle.office_view.specs.View.{first_named};
 ghost use Rattle.options_machine.specs.Step.{set_asked};
@@ -127,11 +128,11 @@ fn leave<R: Wait, C: Counter, L: Link, K: Clock, G: Gate, B: Bell>(
     gate: &mut G,
     bell: &mut B,
     text: &mut [u8; 160],
-    client: &Option<Client>,
+    client: Option<&Client>,
 ) -> Option<SessionEnd>
     requires { AreOf C.is_of C.account pass.old office.now }
     ensures left { (o : Setup) (before : List Act) → Agrees C.account office.now o before pass.old →
-        (new : List Act) × Did C.account L.tells L.faults L.quiets K.gave B.answered B.tolls B.rings new pass.old pass.new link.old link.new clock.old clock.new bell.old bell.new × Leaves o before client.now Told.Bye [] SessionEnd.Quit new result }
+        (new : List Act) × Did C.account L.tells L.faults L.quiets K.gave B.answered B.tolls B.rings new pass.old pass.new link.old link.new clock.old clock.new bell.old bell.new × Leaves o before (option_copied client.entry) Told.Bye [] SessionEnd.Quit new result }
     ensures of { AreOf C.is_of C.account pass.new office.now }
 {
     ask_any(rt, office, pass, clock, Whom::Keeping, Kind::Quit, client);
@@ -148,11 +149,11 @@ fn shut_down<R: Wait, C: Counter, L: Link, K: Clock, G: Gate, B: Bell>(
     gate: &mut G,
     bell: &mut B,
     text: &mut [u8; 160],
-    client: &Option<Client>,
+    client: Option<&Client>,
 ) -> Option<SessionEnd>
     requires { AreOf C.is_of C.account pass.old office.now }
     ensures down { (o : Setup) (before : List Act) → Agrees C.account office.now o before pass.old →
-        (new : List Act) × Did C.account L.tells L.faults L.quiets K.gave B.answered B.tolls B.rings new pass.old pass.new link.old link.new clock.old clock.new bell.old bell.new × Leaves o before client.now Told.Stopping (Ring ∷ []) SessionEnd.Down new result }
+        (new : List Act) × Did C.account L.tells L.faults L.quiets K.gave B.answered B.tolls B.rings new pass.old pass.new link.old link.new clock.old clock.new bell.old bell.new × Leaves o before (option_copied client.entry) Told.Stopping (Ring ∷ []) SessionEnd.Down new result }
     ensures of { AreOf C.is_of C.account pass.new office.now }
 {
     ask_any(rt, office, pass, clock, Whom::Keeping, Kind::Quit, client);
@@ -196,7 +197,7 @@ fn obey<R: Wait, C: Counter, L: Link, K: Clock, G: Gate, B: Bell>(
             gate,
             bell,
             text,
-            &Some(*client),
+            Some(client),
         ),
         Input::Shutdown => shut_down(
             rt,
@@ -207,7 +208,7 @@ fn obey<R: Wait, C: Counter, L: Link, K: Clock, G: Gate, B: Bell>(
             gate,
             bell,
             text,
-            &Some(*client),
+            Some(client),
         ),
     }
 }
@@ -245,8 +246,8 @@ fn meet<R: Wait, C: Counter, L: Link, K: Clock, G: Gate, B: Bell>(
             &Told::NoHello,
             None,
         ),
-        Input::Quit => leave(rt, office, pass, link, clock, gate, bell, text, client),
-        Input::Shutdown => shut_down(rt, office, pass, link, clock, gate, bell, text, client),
+        Input::Quit => leave(rt, office, pass, link, clock, gate, bell, text, None),
+        Input::Shutdown => shut_down(rt, office, pass, link, clock, gate, bell, text, None),
     }
 }
 

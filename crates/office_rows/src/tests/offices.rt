@@ -72,9 +72,11 @@ fn a_site_has_a_desk_for_each_pool(rt: HostRuntime) -> Result<(), Fail> {
         (view.pools().len(), view.sets(), office.parties()),
         (10, 1, 16)
     );
-    assert!(rt; view.route(&edit, version, NEW_YEAR - 1) == Found::Pool(0));
-    assert!(rt; view.route(&edit, version, NEW_YEAR) == Found::Pool(1));
-    assert!(rt; view.route(&solve, version, NEW_YEAR) == Found::Pool(5));
+    let first = view.first(&edit);
+    assert!(rt; view.route(first, &edit, version, NEW_YEAR - 1) == Found::Pool(0));
+    assert!(rt; view.route(first, &edit, version, NEW_YEAR) == Found::Pool(1));
+    let first = view.first(&solve);
+    assert!(rt; view.route(first, &solve, version, NEW_YEAR) == Found::Pool(5));
     let tallies = office.close(&rt, passes, logs);
     assert_eq!(rt; tallies.len(), 10);
     Ok(())

@@ -11,10 +11,10 @@ use Rattle.session.proofs.finding.kept_pool.Goals as goal
 
 pub loop-next-init : goal.loop-next-init
 loop-next-init g c = record {
-  within = c.first-next.ensures.there;
-  named = named_next c.args.office.now.pools c.args.name.now 0 c.first-next.result c.first-next.ensures.first;
+  within = c.first-first.ensures.there;
+  named = named_next c.args.office.now.pools c.args.name.now 0 c.first-first.result c.first-first.ensures.first;
   same = λ o before h. ap (λ (ps : List Pool). kept_from (is_desk_meant Keeping o before) ps c.args.name.now 0) h.pools
-      ∙ kept_by (is_desk_meant Keeping o before) c.args.office.now.pools c.args.name.now 0 c.first-next.result c.first-next.ensures.first;
+      ∙ kept_by (is_desk_meant Keeping o before) c.args.office.now.pools c.args.name.now 0 c.first-first.result c.first-first.ensures.first;
 }
 
 pub loop-next-smaller : goal.loop-next-smaller

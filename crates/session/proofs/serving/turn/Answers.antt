@@ -1,8 +1,12 @@
-use Rattle.std.proofs.Common.{◌++◌, ◌∷◌, [], List, ℕ, true, false, sym, subst, take, append_assoc}
+use Rattle.std.proofs.Common.{◌++◌, ◌∷◌, [], List, ℕ, Option, true, false, sym, subst, take, append_assoc}
+use Rattle.lic_types.specs.declared.client.Client.{Client}
+use Rattle.options_machine.specs.declared.reply.Kind.TheVariants as kind
 use Rattle.line_protocol.specs.Streams.{waiting}
 use Rattle.session_outside.specs.Talk.{Heard, Silence, Ended, ReadFault}
 use Rattle.session.specs.Acts.{Act, Tell, Hear}
 use Rattle.session.specs.Session.{Ends, Goes, Leads, breaks, closes, hears, looks, stops}
+use Rattle.session.specs.Table.{AsksAny}
+use Rattle.session.specs.declared.asked.Whom.TheVariants.{Holding}
 use Rattle.session.specs.declared.end.SessionEnd.{SessionEnd}
 use Rattle.session.proofs.Doings.{did_asked, did_heard, did_quiet, did_then}
 use Rattle.session.proofs.Standing.{agrees_then}
@@ -47,7 +51,7 @@ returns-else-rung-clause-turned g c = λ o before agrees goes.
       quiet ++ a.0,
       did_then d (did_asked g.C.Counter.account g.L.Link.tells g.L.Link.faults g.L.Link.quiets g.K.Clock.gave g.B.Bell.answered g.B.Bell.tolls g.B.Bell.rings a.0 c.args.pass.now c.ask_any.new.pass c.read.new.self c.args.clock.now c.ask_any.new.clock c.rung.new.self a.1),
       (
-        subst (λ acts. Goes o acts c.args.client.now (waiting c.args.feeder.now)) (append_assoc before quiet a.0) (looks a.0 goes c.requires.still a.2),
+        subst (λ acts. Goes o acts c.args.client.now (waiting c.args.feeder.now)) (append_assoc before quiet a.0) (looks a.0 goes c.requires.still (subst (λ (client : Option Client). AsksAny Holding o (before ++ quiet) client kind.Look a.0) c.as_ref.ensures.value a.2)),
         c.requires.still,
       ),
     )

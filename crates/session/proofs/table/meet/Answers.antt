@@ -1,10 +1,8 @@
-use Rattle.std.proofs.Common.{◌≡◌, ◌∙◌, ◌∷◌, [], Option, Some, None, ap, sym, subst}
+use Rattle.std.proofs.Common.{◌≡◌, ◌∙◌, Some, None, ap, sym, subst}
 use Rattle.lic_types.specs.declared.client.Client.{Client}
 use Rattle.line_protocol.specs.declared.told.Told.TheVariants as told
-use Rattle.session.specs.Acts.{Ring}
-use Rattle.session.specs.Table.{Meets, party_at, Leaves, Writes}
+use Rattle.session.specs.Table.{Meets, party_at, Writes}
 use Rattle.session.specs.declared.asked.Input.{Input}
-use Rattle.session.specs.declared.end.SessionEnd.TheVariants as ends
 use Rattle.session.proofs.Doings.{did_writes}
 use Rattle.session.proofs.Steps.{first_is}
 use Rattle.session.proofs.table.meet.Goals as goal
@@ -25,7 +23,7 @@ returns-in-Quit-clause-met g c = λ o before agrees.
       l.0,
       l.1,
       subst (λ (i : Input). Meets o before i l.0 c.args.client.now c.leave.result) (sym c.in-Quit.is)
-          (c.requires.stranger, subst (λ (client : Option Client). Leaves o before client told.Bye [] ends.Quit l.0 c.leave.result) c.requires.stranger l.2),
+          (c.requires.stranger, l.2),
     )
 
 pub returns-in-Shutdown-clause-met : goal.returns-in-Shutdown-clause-met
@@ -34,5 +32,5 @@ returns-in-Shutdown-clause-met g c = λ o before agrees.
       l.0,
       l.1,
       subst (λ (i : Input). Meets o before i l.0 c.args.client.now c.shut_down.result) (sym c.in-Shutdown.is)
-          (c.requires.stranger, subst (λ (client : Option Client). Leaves o before client told.Stopping (Ring ∷ []) ends.Down l.0 c.shut_down.result) c.requires.stranger l.2),
+          (c.requires.stranger, l.2),
     )
