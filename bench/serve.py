@@ -52,10 +52,15 @@ def best(runs):
     return [max(run[0] for run in runs), *(min(run[n] for run in runs) for n in (1, 2, 3))]
 
 
-def line_of(figures, echoes):
-    """Requests a second and what that is of the echo's, the percentiles, and what the 99th is of the echo's."""
-    rate, tails = figures[0], " ".join(f"{it:.1f}" for it in figures[1:])
-    return f"{rate:.0f} {rate / echoes[0]:.2f}; {tails}; {figures[2] / echoes[2]:.2f}"
+def mean_rate(runs):
+    return sum(run[0] for run in runs) / len(runs)
+
+
+def line_of(runs, echoes):
+    """Requests a second, the best and the mean, each with what it is of the echo's; the percentiles, and what the 99th is of the echo's."""
+    figures, theirs = best(runs), best(echoes)
+    rate, mean, tails = figures[0], mean_rate(runs), " ".join(f"{it:.1f}" for it in figures[1:])
+    return f"{rate:.0f} {rate / theirs[0]:.2f}, {mean:.0f} {mean / mean_rate(echoes):.2f}; {tails}; {figures[2] / theirs[2]:.2f}"
 
 
 def compare(program, peers):
@@ -70,17 +75,16 @@ def compare(program, peers):
         "1,000 INCLUDE lines, those of the clients last": (1, includes),
         "64 pools, 1,000 EXCLUDE lines over them": (64, spread),
     }
-    print("clients: requests a second, and of the echo's; p50, p99, p999 in us; p99 of the echo's")
+    print("clients: requests a second, the best and the mean, and of the echo's; p50, p99, p999 in us; p99 of the echo's")
     for clients in CLIENTS:
         theirs, ours = [], {site: [] for site in sites}
         for _ in range(RUNS):
             theirs.append(echo(peers, clients))
             for site, found in ours.items():
                 found.append(daemon(program, peers, clients, *sites[site]))
-        echoes = best(theirs)
-        print(f"{clients}, the echo: {line_of(echoes, echoes)}")
+        print(f"{clients}, the echo: {line_of(theirs, theirs)}")
         for site, found in ours.items():
-            print(f"{clients}, {site}: {line_of(best(found), echoes)}", flush=True)
+            print(f"{clients}, {site}: {line_of(found, theirs)}", flush=True)
 
 
 def status_of(process, field):
