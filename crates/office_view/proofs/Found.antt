@@ -19,6 +19,10 @@ first_there seen pools name o h same =
     let e : o ≡ first_named pools name = h ∙ ap (λ (ps : List Pool). first_named ps name) same in
     subst (λ (r : Option ℕ). IfSome r (λ i. i < length pools)) (sym e) (search_within (λ p. same_name p.name name) 0 pools)
 
+-- the same of the place itself, by the pools as they were read
+pub first_within : (seen pools : List Pool) (name : List ℕ) (k : ℕ) (first : Option ℕ) → first ≡ first_named pools name → first ≡ Some k → seen ≡ pools → k < length seen
+first_within seen pools name k first h at same = subst (λ (o : Option ℕ). IfSome o (λ i. i < length seen)) at (first_there pools seen name first h (sym same))
+
 named_there : (pools : List Pool) (name : List ℕ) (k : ℕ) (o : Option ℕ) → o ≡ named_from pools name k → IfSome o (λ i. i < length pools)
 named_there pools name k o e =
     subst (λ (r : Option ℕ). IfSome r (λ i. i < length pools)) (sym e) (search_within (λ p. same_name p.name name) k pools)

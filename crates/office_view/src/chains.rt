@@ -39,9 +39,7 @@ impl Chains {
         let buckets = pools.len().saturating_mul(BUCKETS_EACH).saturating_add(1);
         let mut heads = vec![in alloc; None; buckets]?;
         let mut nexts = vec![in alloc; None; pools.len()]?;
-        let mut i = pools.len();
-        while i > 0 {
-            i -= 1;
+        for i in (0..pools.len()).rev() {
             let bucket = bucket_of(&pools[i].name, buckets);
             nexts[i] = heads[bucket];
             heads[bucket] = Some(i);

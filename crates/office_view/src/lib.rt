@@ -91,8 +91,7 @@ impl<D> OfficeView<D> {
     /// The pool that serves a checkout at a moment, in seconds since 1970-01-01 UTC. It is looked for from the first of
     /// the name on, which [`first`](OfficeView::first) told.
     pub fn route(&self, first: Option<usize>, name: &Name, version: Version, moment: u64) -> Found
-        requires first { first ≡ first_named self.now.pools name.now }
-        requires within { IfSome first (λ i. i < length self.now.pools) }
+        requires { first ≡ first_named self.now.pools name.now }
         ensures found { result ≡ route self.now.pools name.now version.key moment }
         ensures there { IsThere (length self.now.pools) result }
     {

@@ -67,8 +67,7 @@ impl PoolList {
     /// The pool that serves a checkout at a moment, in seconds since 1970-01-01 UTC. It is looked for from the first of
     /// the name on, which [`first`](PoolList::first) told.
     pub fn route(&self, first: Option<usize>, name: &Name, version: Version, moment: u64) -> Found
-        requires first { first ≡ first_named self.now name.now }
-        requires within { IfSome first (λ i. i < length self.now) }
+        requires { first ≡ first_named self.now name.now }
         ensures found { result ≡ route self.now name.now version.key moment }
         ensures there { IsThere (length self.now) result }
     {

@@ -1,10 +1,10 @@
 //! Which pool a request goes to.
-ghost use Rattle.std.specs.Prelude.{◌≡◌, ◌<◌, List, IfErr, IfOk, IfSome, length};
-ghost use Rattle.std.specs.Result.{result_ok};
+ghost use Rattle.std.specs.Prelude.{◌≡◌, ◌<◌, List, IfSome, length};
 ghost use Rattle.office_view.specs.View.{first_named};
 ghost use Rattle.feature_lines.specs.Route.{IsThere};
 ghost use Rattle.session.specs.Acts.{Act};
 ghost use Rattle.session.specs.Did.{Agrees};
+ghost use Rattle.session.specs.Places.{IsPlaceIn, kept_at};
 ghost use Rattle.session.specs.Table.{Setup, found_by_route, found_or, kept_pool, or_else};
 
 use crate::asked::Whom;
@@ -14,28 +14,30 @@ use feature_lines::Found;
 use lic_types::{Name, NameRef, Version};
 use office_view::OfficeView;
 
-/// The first pool of the name at which the session is holding or queued; where there is none, the first pool of the
-/// name comes as the error.
-fn kept_pool<C: Counter>(
-    office: &OfficeView<C::Desk>,
-    pass: &[C],
-    name: &Name,
-) -> Result<usize, Option<usize>>
+/// Which pool of a name a session's request means.
+#[derive(Drop)]
+enum Place {
+    /// The first of the name at which the session is holding or queued.
+    Kept(usize),
+    /// The first of the name, if it has any: the session is holding or queued at none of them.
+    First(Option<usize>),
+}
+
+/// The first pool of the name at which the session is holding or queued; where there is none, the first of the name.
+fn kept_pool<C: Counter>(office: &OfficeView<C::Desk>, pass: &[C], name: &Name) -> Place
     requires { length pass.now ≡ length office.now.pools }
-    ensures pool { (o : Setup) (before : List Act) → Agrees C.account office.now o before pass.now → result_ok result ≡ kept_pool o before name.now }
-    ensures within { IfOk result (λ i. i < length office.now.pools) }
-    ensures first { IfErr result (λ first. first ≡ first_named office.now.pools name.now) }
-    ensures there { IfErr result (λ first. IfSome first (λ i. i < length office.now.pools)) }
+    ensures pool { (o : Setup) (before : List Act) → Agrees C.account office.now o before pass.now → kept_at result ≡ kept_pool o before name.now }
+    ensures place { IsPlaceIn office.now.pools name.now result }
 {
     let first = office.first(name);
     let mut next = first;
     while let Some(i) = next {
         if is_meant(Whom::Keeping, &pass[i]) {
-            return Ok(i);
+            return Place::Kept(i);
         }
         next = office.next(i);
     }
-    Err(first)
+    Place::First(first)
 }
 
 /// Where a request goes whose session keeps no place at a pool of that name, of which this is the first.
@@ -46,8 +48,7 @@ fn routed<D>(
     at: u64,
     version: Option<Version>,
 ) -> Found
-    requires first { first ≡ first_named office.now.pools name.now }
-    requires within { IfSome first (λ i. i < length office.now.pools) }
+    requires { first ≡ first_named office.now.pools name.now }
     ensures found { result ≡ found_by_route office.now.pools name.now at version }
     ensures there { IsThere (length office.now.pools) result }
 {
@@ -74,8 +75,8 @@ pub(crate) fn find<C: Counter>(
 {
     let name = name.name();
     match kept_pool(office, pass, &name) {
-        Ok(i) => Found::Pool(i),
-        Err(first) => routed(office, first, &name, at, version),
+        Place::Kept(i) => Found::Pool(i),
+        Place::First(first) => routed(office, first, &name, at, version),
     }
 }
 
@@ -91,7 +92,7 @@ pub(crate) fn find_shown<C: Counter>(
 {
     let name = name.name();
     match kept_pool(office, pass, &name) {
-        Ok(i) => Some(i),
-        Err(first) => first,
+        Place::Kept(i) => Some(i),
+        Place::First(first) => first,
     }
 }
