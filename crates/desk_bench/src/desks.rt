@@ -1,14 +1,16 @@
 //! Pairs of a checkout and a check-in on a desk.
-ghost use Rattle.std.specs.Prelude.{◌≡◌, ◌<◌, All, IfOk, length, vec_len};
+ghost use Rattle.std.specs.Prelude.{◌≡◌, ◌<◌, ◌≤◌, All, IfOk, IsTrue, length, min, vec_len};
+ghost use Rattle.options_machine.specs.Rules.{IsSound};
 ghost use Rattle.options_machine.specs.Run.{IsBelow};
 ghost use Rattle.options_machine.specs.Step.{set_asked};
-ghost use Rattle.feature_desk.specs.Closings.{IsKeeperOf, Rests};
+ghost use Rattle.feature_desk.specs.Closings.{Rests};
 ghost use Rattle.feature_desk.specs.Sitters.{IsOf};
 
 use anyhow::{Result, bail, ensure};
 use counter::Counter;
-use feature_desk::{Desk, DeskKeeper, DeskPass};
+use feature_desk::{Desk, DeskPass};
 use feature_lines::Pool;
+use kex_core::Net;
 use kex_net::tree;
 use lic_types::{Client, Expiry, Name, Version};
 use options_machine::Kind;
@@ -43,29 +45,32 @@ fn client() -> Result<Client> {
     })
 }
 
-/// The desk of so many licences without options, and the passes of so many parties.
-fn desk_of<R: Wait>(
-    rt: &R,
-    alloc: Global,
-    count: u32,
-    parties: u32,
-) -> Result<(Desk, Vec<DeskPass>, DeskKeeper)>
-    ensures own { IfOk result (λ made. (vec_len made.1 ≡ made.0.lock.id.parties) × All (λ p. IsOf p made.0) made.1.items) }
-    ensures keeper { IfOk result (λ made. IsKeeperOf made.2 made.0) }
-{
-    ensure!(2 <= parties && parties <= 256, "more than 256 threads");
-    ensure!(
-        1 <= count && count <= 65_535,
-        "not from 1 to 65,535 licences"
-    );
+/// The rules of so many licences without options.
+fn rules_of(alloc: Global, count: u32) -> Result<DeskRules> {
+    let pool = pool(count)?;
     let options = read_options(alloc, b"")?;
-    let rules = DeskRules::of(alloc, &options, &pool(count)?)?;
+    Ok(DeskRules::of(alloc, &options, &pool)?)
+}
+
+/// Whether a net is as wide as the desk of these rules needs it.
+fn fits(rules: &DeskRules, net: &Net) -> bool
+    ensures sound { IsSound rules.now }
+    ensures width { IsTrue result → net.now.width ≡ min rules.now.count net.now.parties }
+{
+    net.width() == rules.count().min(net.parties())
+}
+
+/// The rules of so many licences, and a net for so many parties that fits them.
+fn parts_of(alloc: Global, count: u32, parties: u32) -> Result<(DeskRules, Net)>
+    requires count { 1 ≤ count }
+    requires parties { (2 ≤ parties) × (parties ≤ 256) }
+    ensures sound { IfOk result (λ parts. IsSound parts.0) }
+    ensures width { IfOk result (λ parts. parts.1.width ≡ min parts.0.count parts.1.parties) }
+{
+    let rules = rules_of(alloc, count)?;
     let net = tree(alloc, parties, count)?;
-    ensure!(
-        net.width() == rules.count().min(net.parties()),
-        "a net of another width"
-    );
-    Ok(Desk::make(rt, alloc, rules, net)?)
+    ensure!(fits(&rules, &net), "a net of another width");
+    Ok((rules, net))
 }
 
 /// Checks out and in, so often, and quits.
@@ -147,9 +152,15 @@ pub fn grants_of_desk<R: Threads + Wait + Sync>(
         bail!("not three numbers")
     };
     ensure!(1 <= threads, "no thread");
+    ensure!(threads <= 256, "more than 256 threads");
+    ensure!(
+        1 <= seats && seats <= 65_535,
+        "not from 1 to 65,535 licences"
+    );
     let client = client()?;
     let parties = threads.max(2);
-    let (desk, mut passes, keeper) = desk_of(rt, alloc, seats, parties)?;
+    let (rules, net) = parts_of(alloc, seats, parties)?;
+    let (desk, mut passes, keeper) = Desk::make(rt, alloc, rules, net)?;
     pairs_of_all(rt, &desk, &mut passes, &client, rounds, threads as usize);
     Ok(desk.close(rt, passes, keeper).grants)
 }

@@ -1,5 +1,5 @@
 //! Pairs of enter and leave on the seats behind a fast gate.
-ghost use Rattle.std.specs.Prelude.{◌≡◌};
+ghost use Rattle.std.specs.Prelude.{◌≡◌, All};
 
 use anyhow::{Result, bail, ensure};
 use kex_gate::{GateOut, GatedSeats};
@@ -41,6 +41,26 @@ fn come_and_go<R: Wait>(rt: &R, gate: &GatedSeats, mut out: GateOut, rounds: u32
     count
 }
 
+/// The pairs that are made in all, by a thread for each pass.
+fn pairs_of_all<R: Threads + Wait + Sync>(
+    rt: &R,
+    gate: &GatedSeats,
+    passes: Vec<GateOut>,
+    rounds: u32,
+) -> Result<Pairs>
+    requires { All (λ out. out.gate ≡ gate.now) passes.items }
+{
+    let counting = |out: GateOut| -> Pairs
+        requires { out.gate ≡ gate.now }
+    { come_and_go(rt, gate, out, rounds) };
+    let counts = map_vec(rt, passes, &counting)?;
+    let mut total = NONE;
+    for count in &counts {
+        total = total.and(*count);
+    }
+    Ok(total)
+}
+
 /// The pairs that the threads make at a gate, with the numbers of sessions, of licences, of threads and of rounds.
 pub fn pairs_at_gate<R: Threads + Wait + Sync>(
     rt: &R,
@@ -58,11 +78,5 @@ pub fn pairs_at_gate<R: Threads + Wait + Sync>(
     ensure!(n + k <= 256, "more than 256 sessions and seats");
     let (gate, mut passes) = GatedSeats::make(alloc, n, k)?;
     passes.truncate(threads as usize);
-    let shared = &gate;
-    let counting = |out: GateOut| -> Pairs
-        requires { out.gate ≡ shared.now }
-    { come_and_go(rt, shared, out, rounds) };
-    let counts = map_vec(rt, passes, &counting)?;
-    let total = counts.iter().fold(NONE, |sum, count| sum.and(*count));
-    Ok(total)
+    pairs_of_all(rt, &gate, passes, rounds)
 }

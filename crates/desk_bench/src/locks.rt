@@ -1,5 +1,5 @@
 //! Calls of a sum behind a ticket lock.
-ghost use Rattle.std.specs.Prelude.{◌≡◌};
+ghost use Rattle.std.specs.Prelude.{◌≡◌, All, IfOk, vec_len};
 
 use anyhow::{Result, bail, ensure};
 use std::alloc::Global;
@@ -20,6 +20,24 @@ fn asks<R: Wait>(rt: &R, turns: &Turns<Sum>, mut pass: TurnPass<Sum>, rounds: u3
     pass
 }
 
+/// Asks with each pass, in a thread of its own.
+fn all_ask<R: Threads + Wait + Sync>(
+    rt: &R,
+    turns: &Turns<Sum>,
+    passes: Vec<TurnPass<Sum>>,
+    rounds: u32,
+) -> Result<Vec<TurnPass<Sum>>>
+    requires { All (λ p. p.lock ≡ turns.now.id) passes.items }
+    ensures count { IfOk result (λ back. vec_len back ≡ vec_len passes) }
+    ensures lock { IfOk result (λ back. All (λ p. p.lock ≡ turns.now.id) back.items) }
+{
+    let asking = |pass: TurnPass<Sum>| -> TurnPass<Sum>
+        requires { pass.lock ≡ turns.now.id }
+        ensures { result.lock ≡ pass.lock }
+    { asks(rt, turns, pass, rounds) };
+    Ok(map_vec(rt, passes, &asking)?)
+}
+
 /// How many calls the threads make, with the numbers of threads and of rounds.
 pub fn calls_of_lock<R: Threads + Wait + Sync>(
     rt: &R,
@@ -33,12 +51,7 @@ pub fn calls_of_lock<R: Threads + Wait + Sync>(
     let Ok((turns, passes)) = Turns::make(alloc, Sum { total: 0 }, threads) else {
         bail!("no memory")
     };
-    let shared = &turns;
-    let asking = |pass: TurnPass<Sum>| -> TurnPass<Sum>
-        requires { pass.lock ≡ shared.now.id }
-        ensures { result.lock ≡ pass.lock }
-    { asks(rt, shared, pass, rounds) };
-    let passes = map_vec(rt, passes, &asking)?;
+    let passes = all_ask(rt, &turns, passes, rounds)?;
     let (sum, calls) = turns.close(passes);
     ensure!(sum.total == calls, "a call was lost");
     Ok(calls)

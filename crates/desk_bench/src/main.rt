@@ -47,11 +47,16 @@ use std::alloc::Global;
 use std::env;
 use std::env::Args;
 
+/// The number that a word writes.
+fn number_of(word: &str) -> Result<u32> {
+    Ok(word.parse()?)
+}
+
 /// The numbers behind the word that says what is measured.
 fn numbers_of(alloc: Global, words: Args) -> Result<Vec<u32>> {
     let mut numbers = Vec::new(alloc);
     for word in words {
-        numbers.push(word.parse()?)?;
+        numbers.push(number_of(word.as_str())?)?;
     }
     Ok(numbers)
 }

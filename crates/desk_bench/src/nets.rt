@@ -1,5 +1,5 @@
 //! Pairs of enter and leave on the seats of a net.
-ghost use Rattle.std.specs.Prelude.{◌≡◌, ◌≤◌};
+ghost use Rattle.std.specs.Prelude.{◌≡◌, ◌≤◌, All};
 
 use anyhow::{Result, bail, ensure};
 use kex_core::{Net, NoMemory};
@@ -45,6 +45,26 @@ fn pairs<R: Wait>(rt: &R, seats: &Seats, mut out: Out, rounds: u32) -> u64
     count
 }
 
+/// How many pairs are made in all, by a thread for each pass.
+fn pairs_of_all<R: Threads + Wait + Sync>(
+    rt: &R,
+    seats: &Seats,
+    passes: Vec<Out>,
+    rounds: u32,
+) -> Result<u64>
+    requires { All (λ out. out.table ≡ seats.now) passes.items }
+{
+    let counting = |out: Out| -> u64
+        requires { out.table ≡ seats.now }
+    { pairs(rt, seats, out, rounds) };
+    let counts = map_vec(rt, passes, &counting)?;
+    let mut total = 0u64;
+    for count in &counts {
+        total = total.wrapping_add(*count);
+    }
+    Ok(total)
+}
+
 /// How many pairs the threads make on the seats of such a net, with the numbers of parties, of licences, of threads and
 /// of rounds.
 pub fn pairs_on_net<R: Threads + Wait + Sync>(
@@ -61,13 +81,5 @@ pub fn pairs_on_net<R: Threads + Wait + Sync>(
     let net = shape.net(alloc, n, k)?;
     let (seats, mut passes) = Seats::make(alloc, net)?;
     passes.truncate(threads as usize);
-    let shared = &seats;
-    let counting = |out: Out| -> u64
-        requires { out.table ≡ shared.now }
-    { pairs(rt, shared, out, rounds) };
-    let counts = map_vec(rt, passes, &counting)?;
-    let total = counts
-        .iter()
-        .fold(0u64, |sum, count| sum.wrapping_add(*count));
-    Ok(total)
+    pairs_of_all(rt, &seats, passes, rounds)
 }
