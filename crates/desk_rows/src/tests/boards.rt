@@ -2,7 +2,8 @@
 ghost use Rattle.std.specs.Prelude.{◌≡◌, ◌≤◌, true, [], vec_len, All, IfOk};
 ghost use Rattle.stat_board.specs.OneSeat.{one_seat, IsIdle};
 
-use lic_types::{Client, Name};
+use crate::tests::client;
+use lic_types::Client;
 use options_machine::{Charge, EntryRef, Kind, Reply, Request};
 use stat_board::{Board, BoardPass, Glance, NoMemory, Ruling};
 use std::alloc::Global;
@@ -37,17 +38,6 @@ fn opened<R: Wait>(rt: &R, alloc: Global, n: u32) -> Result<(Board, Vec<BoardPas
     ensures passes { IfOk result (λ r. All (λ p. p ≡ r.0.front) r.1.items) }
 {
     Board::make::<R, (), OneSeat>(rt, alloc, &(), OPENING, n)
-}
-
-/// Ann at host ann.
-fn ann() -> Result<Client, Fail> {
-    let name = Name::read(b"ann")?;
-    Ok(Client {
-        user: name,
-        host: name,
-        display: name,
-        project: name,
-    })
 }
 
 /// Party 0 takes the seat, and party 1 waits for it. What a pass reads after each.
@@ -89,7 +79,7 @@ fn seat_and_wait<R: Wait>(
 
 #[test]
 fn a_pass_reads_what_was_published(rt: HostRuntime) -> Result<(), Fail> {
-    let client = ann()?;
+    let ann = client(b"ann")?;
     let made = opened(&rt, rt.alloc(), 1);
     assert!(rt; made.is_ok());
     let Ok((mut board, mut passes)) = made else {
@@ -97,7 +87,7 @@ fn a_pass_reads_what_was_published(rt: HostRuntime) -> Result<(), Fail> {
     };
     let mut pass = passes.pop().unwrap();
     let opening = pass.glance();
-    let (first, second) = seat_and_wait(&rt, &mut board, &mut pass, &client);
+    let (first, second) = seat_and_wait(&rt, &mut board, &mut pass, &ann);
     let live = board.is_live();
     let last = board.note().glance();
     board.end(&rt);
@@ -201,7 +191,7 @@ fn publish_and_watch_all<R: Threads + Wait + Sync>(
 /// Eight passes share the reader, which is there again when nobody reads.
 #[test]
 fn eight_threads_share_the_reader(rt: HostRuntime) -> Result<(), Fail> {
-    let client = ann()?;
+    let ann = client(b"ann")?;
     let made = opened(&rt, rt.alloc(), 8);
     assert!(rt; made.is_ok());
     let Ok((board, passes)) = made else {
@@ -216,7 +206,7 @@ fn eight_threads_share_the_reader(rt: HostRuntime) -> Result<(), Fail> {
         return Ok(());
     };
     assert_eq!(rt;
-        publish_and_watch_all(&rt, board, watchers, client),
+        publish_and_watch_all(&rt, board, watchers, ann),
         (false, true)
     );
     Ok(())

@@ -6,7 +6,9 @@ ghost use Rattle.options_machine.specs.Step.{set_asked};
 ghost use Rattle.feature_desk.specs.Closings.{AreClosable, IsKeeperOf, Rests};
 ghost use Rattle.feature_desk.specs.Sitters.{IsOf};
 
+use crate::tests::client;
 use counter::{Asked, Counter, Glance};
+use desk_book::DeskLog;
 use feature_desk::{Desk, DeskKeeper, DeskPass, DeskState, DeskTally, Noted, Seating};
 use feature_lines::Pool;
 use kex_net::chain;
@@ -21,13 +23,18 @@ use std::thread::{Threads, for_each_mut, yield_now};
 
 const ROUNDS: u32 = 50;
 
-/// A client of this user, on host h1.
-fn client(user: &[u8]) -> Result<Client, Fail> {
-    Ok(Client {
-        user: Name::read(user)?,
-        host: Name::read(b"h1")?,
-        display: Name::read(b"d1")?,
-        project: Name::read(b"p1")?,
+/// A pool of so many licences.
+fn pool_of(count: u32) -> Result<Pool, Fail>
+    ensures { IfOk result (λ pool. pool.count ≡ count) }
+{
+    Ok(Pool {
+        name: Name::read(b"edit")?,
+        version: Version { key: 2_000_000_000 },
+        version_text: Name::read(b"2.0")?,
+        vendor: Name::read(b"acme")?,
+        expiry: Expiry::Never,
+        count,
+        line: 1,
     })
 }
 
@@ -36,19 +43,10 @@ fn rules_of(rt: &(impl Abort + AllocGlobal), file: &[u8], count: u32) -> Result<
     ensures sound { IfOk result IsSound }
     ensures count { IfOk result (λ rules. rules.count ≡ count) }
 {
-    let alloc = rt.alloc();
-    let pool = Pool {
-        name: Name::read(b"edit")?,
-        version: Version { key: 2_000_000_000 },
-        version_text: Name::read(b"2.0")?,
-        vendor: Name::read(b"acme")?,
-        expiry: Expiry::Never,
-        count,
-        line: 1,
-    };
+    let pool = pool_of(count)?;
     assert!(rt; file.len() < 1 << 32);
-    let options = read_options(alloc, file)?;
-    let rules = DeskRules::of(alloc, &options, &pool)?;
+    let options = read_options(rt.alloc(), file)?;
+    let rules = DeskRules::of(rt.alloc(), &options, &pool)?;
     assert!(rt; rules.count() == count);
     Ok(rules)
 }
@@ -188,6 +186,14 @@ fn eight_parties_take_turns_at_two_seats_behind_a_gate(rt: HostRuntime) -> Resul
     Ok(())
 }
 
+/// Enters a checkout into the book, and no seat yet.
+fn enters<R: Wait>(rt: &R, desk: &Desk, pass: DeskPass, client: &Client, moment: u64) -> Noted
+    requires { IsOf pass desk.now }
+    ensures { IsOf result.sitter desk.now }
+{
+    desk.enter_book(rt, pass, Kind::Checkout, client, moment)
+}
+
 /// Takes so many steps towards a seat, none of which is the last.
 fn waits(rt: &impl Abort, desk: &Desk, mut noted: Noted, steps: u32) -> Noted
     requires { IsOf noted.sitter desk.now }
@@ -200,6 +206,17 @@ fn waits(rt: &impl Abort, desk: &Desk, mut noted: Noted, steps: u32) -> Noted
         }
     }
     noted
+}
+
+/// Takes the last step towards a seat.
+fn seated(rt: &impl Abort, desk: &Desk, noted: Noted) -> DeskPass
+    requires { IsOf noted.sitter desk.now }
+    ensures { IsOf result desk.now }
+{
+    let Seating::Matched(pass, _asked) = desk.turn_seat(noted) else {
+        panic!(rt; "the seat is not entered");
+    };
+    pass
 }
 
 /// The party tells the other what it knows of the board, and the other reads it.
@@ -233,6 +250,25 @@ fn both(_desk: &Desk, mut room: Vec<DeskPass>, one: DeskPass, two: DeskPass) -> 
     room
 }
 
+/// Closes a desk of two parties, whose passes are these.
+fn closed<R: Wait>(
+    rt: &R,
+    desk: Desk,
+    room: Vec<DeskPass>,
+    one: DeskPass,
+    two: DeskPass,
+    keeper: DeskKeeper,
+) -> (DeskTally, DeskLog)
+    requires parties { desk.lock.id.parties ≡ 2 }
+    requires room { (room.items ≡ []) × (2 ≤ vec_capacity room) }
+    requires one { IsOf one desk × Rests one }
+    requires two { IsOf two desk × Rests two }
+    requires keeper { IsKeeperOf keeper desk }
+{
+    let passes = both(&desk, room, one, two);
+    desk.close_with_log(rt, passes, keeper)
+}
+
 #[test]
 fn a_reclaimed_seat_is_left_before_another_enters(rt: HostRuntime) -> Result<(), Fail> {
     let (ann, bob) = (client(b"ann")?, client(b"bob")?);
@@ -247,7 +283,7 @@ fn a_reclaimed_seat_is_left_before_another_enters(rt: HostRuntime) -> Result<(),
         asks(&rt, &desk, &mut one, Kind::Look, &ann, 899).reply,
         Reply::Held
     );
-    let noted = desk.enter_book(&rt, two, Kind::Checkout, &bob, 900);
+    let noted = enters(&rt, &desk, two, &bob, 900);
     assert_eq!(rt; noted.asked().reply, Reply::Granted(Charge::Open));
     assert_eq!(rt; noted.seat(), None);
     let noted = waits(&rt, &desk, noted, 10);
@@ -256,17 +292,14 @@ fn a_reclaimed_seat_is_left_before_another_enters(rt: HostRuntime) -> Result<(),
         Reply::NotHeld
     );
     assert_eq!(rt; one.state(), DeskState::Out);
-    let Seating::Matched(mut two, _asked) = desk.turn_seat(noted) else {
-        panic!(rt; "the seat is not entered");
-    };
+    let mut two = seated(&rt, &desk, noted);
     assert_eq!(rt; two.seat(), Some(0));
     let glance = told_glance(&desk, &one, &mut two);
     assert_eq!(rt; (glance.front, glance.held), (4, 1));
     quit(&rt, &desk, &mut one, &ann, 901);
     quit(&rt, &desk, &mut two, &bob, 901);
-    let passes = both(&desk, room, one, two);
     assert!(rt; keeper.take(&rt));
-    let (tally, log) = desk.close_with_log(&rt, passes, keeper);
+    let (tally, log) = closed(&rt, desk, room, one, two, keeper);
     assert_eq!(rt; (tally.calls, tally.grants, tally.uses), (6, 2, 2));
     assert_eq!(rt; (log.entries.len(), log.cut), (6, false));
     Ok(())
@@ -300,8 +333,7 @@ fn a_log_is_cut_behind_entry_4096(rt: HostRuntime) -> Result<(), Fail> {
     let mut one = last(&rt, &desk, &mut passes);
     look_often(&rt, &desk, &mut one, &ann, 4097);
     let (one, two) = (rested(&rt, &desk, one), rested(&rt, &desk, two));
-    let passes = both(&desk, room, one, two);
-    let (tally, log) = desk.close_with_log(&rt, passes, keeper);
+    let (tally, log) = closed(&rt, desk, room, one, two, keeper);
     assert_eq!(rt; (tally.calls, tally.grants, tally.uses), (4097, 0, 0));
     assert_eq!(rt; (log.entries.len(), log.cut), (4096, true));
     let last = log.entries.last().map(|entry| (entry.moment, entry.reply));

@@ -1,7 +1,7 @@
 //! The lock round a sum, in one thread and in several.
-ghost use Rattle.std.specs.Prelude.{◌≡◌, All, vec_len, IfOk};
+ghost use Rattle.std.specs.Prelude.{◌≡◌, All, vec_len};
 
-use std::alloc::{AllocError, Global};
+use std::alloc::Global;
 use std::sync::atomic::{AtomicU64, Ordering};
 use std::sync::{Arc, Wait};
 use std::test::Fail;
@@ -50,109 +50,6 @@ fn eight_threads_have_places_of_their_own(rt: HostRuntime) -> Result<(), Fail> {
     Ok(())
 }
 
-/// A value that may not be dropped. Its party's number is the request.
-struct Sealed {
-    steps: u64,
-}
-
-impl Sealed {
-    fn open(self) -> u64 {
-        let Sealed { steps } = self;
-        steps
-    }
-}
-
-impl Kept for Sealed {
-    type Request = u32;
-
-    type Answer = ();
-
-    type Law = ();
-
-    ghost law = { λ _. tt };
-
-    ghost fits = { λ _ _. Unit {0} };
-
-    ghost party = { λ q. q };
-
-    ghost run = { λ _ _. Unit {0} };
-
-    ghost used = { λ _ _ m. m };
-
-    ghost stands = { λ _ _. Unit {0} };
-
-    fn step<R: Wait>(&mut self, _rt: &R, _request: &u32, moment: u64) -> Stepped<()> {
-        self.steps = self.steps.wrapping_add(1);
-        Stepped {
-            answer: (),
-            used: moment,
-        }
-    }
-}
-
-/// Asks once.
-fn ask_once<R: Wait>(rt: &R, lock: &Turns<Sealed>, mut pass: TurnPass<Sealed>) -> TurnPass<Sealed>
-    requires { pass.lock ≡ lock.now.id }
-    ensures { result.lock ≡ pass.lock }
-{
-    let party = pass.number();
-    lock.ask(rt, &mut pass, &party, 0);
-    pass
-}
-
-/// Each pass goes to a thread of its own, and comes back.
-fn all_ask<R: Threads + Wait + Sync>(
-    rt: &R,
-    lock: &Turns<Sealed>,
-    passes: Vec<TurnPass<Sealed>>,
-) -> Result<Vec<TurnPass<Sealed>>, AllocError>
-    requires lock { All (λ p. p.lock ≡ lock.now.id) passes.items }
-    ensures count { IfOk result (λ r. vec_len r ≡ vec_len passes) }
-    ensures lock { IfOk result (λ r. All (λ p. p.lock ≡ lock.now.id) r.items) }
-{
-    let asking = |pass: TurnPass<Sealed>| -> TurnPass<Sealed>
-        requires { pass.lock ≡ lock.now.id }
-        ensures { result.lock ≡ pass.lock }
-    { ask_once(rt, lock, pass) };
-    map_vec(rt, passes, &asking)
-}
-
-/// The same, where every pass has a thread, and then all are taken in.
-fn two_ask<R: Threads + Wait + Sync>(
-    rt: &R,
-    lock: Turns<Sealed>,
-    mut passes: Vec<TurnPass<Sealed>>,
-) -> (u64, u64)
-    requires parties { lock.id.parties ≡ 2 }
-    requires count { vec_len passes ≡ 2 }
-    requires lock { All (λ p. p.lock ≡ lock.id) passes.items }
-{
-    let second = passes.pop().unwrap();
-    let first = passes.pop().unwrap();
-    let shared = &lock;
-    let (first, second) = join(
-        rt,
-        move || ask_once(rt, shared, first),
-        move || ask_once(rt, shared, second),
-    );
-    passes.push_reserved(first);
-    passes.push_reserved(second);
-    let (value, calls) = lock.close(passes);
-    (value.open(), calls)
-}
-
-#[test]
-fn threads_own_passes_of_a_value_that_may_not_be_dropped(rt: HostRuntime) {
-    match Turns::make(rt.alloc(), Sealed { steps: 0 }, 2) {
-        Ok((lock, passes)) => {
-            let passes = all_ask(&rt, &lock, passes).expect(&rt, "no memory");
-            let told = two_ask(&rt, lock, passes);
-            assert_eq!(rt; told, (4, 4));
-        }
-        Err((_, value)) => assert_eq!(rt; value.open(), 0),
-    }
-}
-
 /// So often a party looks for the other, and so many turns it stands still once that asks.
 const PATIENCE: u32 = 1_000_000;
 
@@ -185,14 +82,22 @@ struct Found {
     held_back: bool,
 }
 
-/// A value in whose step party 0 stands still.
-#[derive(Drop)]
+/// A value in whose step party 0 stands still. It may not be dropped. Its party's number is the request.
 struct Halting {
     words: Arc<Words, Global>,
     steps: u64,
 }
 
 impl Halting {
+    /// How many steps there were.
+    fn open(self) -> u64 {
+        let Halting {
+            words: _words,
+            steps,
+        } = self;
+        steps
+    }
+
     /// Stands still until party 1 asks, and then as long as is long for a call. Says whether party 1 asked and had no
     /// answer.
     fn stands_still(&self) -> bool {
@@ -268,14 +173,14 @@ fn ask_behind<R: Wait>(
     told
 }
 
-/// Party 0 asks and stands still in its turn, and party 1 asks meanwhile. It gives what each found, with its place, and
-/// the number of steps.
+/// Party 0 asks and stands still in its turn, and party 1 asks meanwhile, each with its pass in a thread of its own. It
+/// gives what each found, with its place, and the numbers of steps and of calls.
 fn halt_and_ask<R: Threads + Wait + Sync>(
     rt: &R,
     lock: Turns<Halting>,
     mut passes: Vec<TurnPass<Halting>>,
     words: Arc<Words, Global>,
-) -> ([(Found, u64); 2], u64)
+) -> ([(Found, u64); 2], (u64, u64))
     requires parties { lock.id.parties ≡ 2 }
     requires count { vec_len passes ≡ 2 }
     requires lock { All (λ p. p.lock ≡ lock.id) passes.items }
@@ -291,8 +196,8 @@ fn halt_and_ask<R: Threads + Wait + Sync>(
     let told = [(first.1, first.2), (second.1, second.2)];
     passes.push_reserved(first.0);
     passes.push_reserved(second.0);
-    let (halting, _calls) = lock.close(passes);
-    (told, halting.steps)
+    let (halting, calls) = lock.close(passes);
+    (told, (halting.open(), calls))
 }
 
 #[test]
@@ -309,9 +214,12 @@ fn who_stops_in_its_turn_holds_the_others_back(rt: HostRuntime) -> Result<(), Fa
     };
     let (lock, passes) = match Turns::make(rt.alloc(), halting, 2) {
         Ok(made) => made,
-        Err((_, _halting)) => panic!(rt; "no memory"),
+        Err((_, halting)) => {
+            halting.open();
+            panic!(rt; "no memory")
+        }
     };
-    let (told, steps) = halt_and_ask(&rt, lock, passes, words);
+    let (told, numbers) = halt_and_ask(&rt, lock, passes, words);
     let stopped = Found {
         before: 0,
         held_back: true,
@@ -321,6 +229,6 @@ fn who_stops_in_its_turn_holds_the_others_back(rt: HostRuntime) -> Result<(), Fa
         held_back: false,
     };
     assert_eq!(rt; told, [(stopped, 0), (behind, 1)]);
-    assert_eq!(rt; steps, 2);
+    assert_eq!(rt; numbers, (2, 2));
     Ok(())
 }

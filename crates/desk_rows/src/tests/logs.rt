@@ -1,28 +1,19 @@
 ghost use Rattle.std.specs.Prelude.{◌≡◌};
 
-use audit_log::{
-    LogPush, LogTake, Logged, is_summary, log_queue, read_entry, write_entry, write_log,
-    write_tally,
-};
+use crate::tests::client;
+use audit_log::{LogPush, LogTake, Logged, is_summary, log_queue, read_entry, write_entry};
 use lic_text::lines;
-use lic_types::{Client, Name};
 use options_machine::{Charge, Entry, Kind, Reply, Request};
 use std::sync::Wait;
 use std::test::Fail;
 use std::thread::{Threads, join};
 
-/// An entry of a party, asked at a moment.
+/// An entry of a party for ann, asked at a moment.
 fn entry_at(party: u32, moment: u64, kind: Kind, reply: Reply) -> Result<Entry, Fail> {
-    let client = Client {
-        user: Name::read(b"ann")?,
-        host: Name::read(b"h1")?,
-        display: Name::read(b"d1")?,
-        project: Name::read(b"p1")?,
-    };
     Ok(Entry {
         request: Request {
             party,
-            client,
+            client: client(b"ann")?,
             kind,
         },
         moment,
@@ -43,22 +34,6 @@ fn push_often<R: Wait>(rt: &R, mut push: LogPush, entry: &Entry, times: u64) -> 
         push.push(rt, &entry);
     }
     push
-}
-
-#[test]
-fn entry_4097_is_not_pushed(rt: HostRuntime) -> Result<(), Fail> {
-    let (push, mut take) = log_queue(rt.alloc())?;
-    let entry = entry_at(0, 4096, Kind::Look, Reply::NotHeld)?;
-    let mut push = push_often(&rt, push, &entry, 4096);
-    assert!(rt; !push.push(&rt, &entry));
-    assert!(rt; take.take(&rt));
-    assert!(rt; !push.push(&rt, &entry));
-    take.finish(&rt, push);
-    assert_eq!(rt; take.taken().len(), 4096);
-    for (place, entry) in take.taken().iter().enumerate() {
-        assert_eq!(rt; entry.moment, place as u64);
-    }
-    Ok(())
 }
 
 /// Takes until so many entries were taken, or so many attempts were made.
@@ -100,8 +75,8 @@ fn pushed_and_taken<R: Threads + Wait + Sync>(
 
 #[test]
 fn one_thread_takes_while_another_pushes(rt: HostRuntime) -> Result<(), Fail> {
-    let (push, take) = log_queue(rt.alloc())?;
     let entry = entry_at(7, 9, Kind::Beat, Reply::Beaten)?;
+    let (push, take) = log_queue(rt.alloc())?;
     let entries = pushed_and_taken(&rt, push, take, &entry, 2000);
     assert_eq!(rt; entries.len(), 2000);
     for (place, taken) in entries.iter().enumerate() {
@@ -228,20 +203,4 @@ fn entries_are_written_and_read_back(rt: HostRuntime) -> Result<(), Fail> {
         assert!(rt; !is_summary(&line));
     }
     Ok(())
-}
-
-#[test]
-fn logs_and_tallies_are_summed_up(rt: HostRuntime) {
-    let mut room = [0u8; 640];
-    let len = write_log(0, 2, false, &mut room);
-    assert!(rt; &room[..len] == b"LOG 0 ENTRIES 2 WHOLE\n".as_slice());
-    let len = write_log(1, 4096, true, &mut room);
-    assert!(rt; &room[..len] == b"LOG 1 ENTRIES 4096 CUT\n".as_slice());
-    let len = write_tally(1, 4097, 0, 0, &mut room);
-    assert!(rt; &room[..len] == b"TALLY 1 CALLS 4097 GRANTS 0 CARD USES 0\n".as_slice());
-    let found = lines(&room[..len]).next();
-    assert!(rt; matches!(found, Some(Ok(_))));
-    if let Some(Ok(line)) = found {
-        assert!(rt; is_summary(&line));
-    }
 }
