@@ -2,10 +2,11 @@
 use Rattle.std.proofs.Common.{◌≡◌, ◌∙◌, ℕ, ◌<◌, List, length, map, get_or, ap, refl, sym, subst, arith}
 use Rattle.std.proofs.lemmas.List.{get_or-map, length-map}
 use Rattle.feature_desk.specs.Sitters.{DeskView, IsOf, Sitter, account_of, newcomer}
+use Rattle.daemon_run.specs.Join.{HasSets}
 use Rattle.licence_office.specs.Offices.{AreAt}
 use Rattle.office_view.specs.View.{View}
 use Rattle.session.specs.Pass.{IsIdle}
-use Rattle.office_rows.specs.Ready.{HasSets, IsReady}
+use Rattle.office_rows.specs.Ready.{IsReady}
 use Rattle.stat_board.specs.Fronts.{the_first}
 
 module _ (office : View DeskView) (paired : length office.desks ≡ length office.pools) where

@@ -1,12 +1,8 @@
 -- Parties who can come to an office.
-use Rattle.std.specs.Prelude.{◌≡◌, ℕ, ◌<◌, List, length, get_or}
+use Rattle.std.specs.Prelude.{List}
 use Rattle.feature_desk.specs.Sitters.{DeskView, IsOf, Sitter, account_of}
 use Rattle.office_view.specs.View.{View}
 use Rattle.session.specs.Pass.{AreIdle, AreOf}
-
--- each desk has as many rule sets as the office says
-abbrev pub HasSets : View DeskView → Type 0
-HasSets office = (j : ℕ) (d : DeskView) → j < length office.pools → length (get_or office.desks j d).lock.law.sets ≡ office.sets
 
 -- a party's passes are of the office, and none is holding or waiting
 pub record IsReady (office : View DeskView) (passes : List Sitter) : Type 0 where

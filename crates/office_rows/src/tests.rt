@@ -1,14 +1,14 @@
 //! What a session of the first of two parties says and is told, how it ends, and which entries it makes.
 ghost use Rattle.std.specs.Prelude.{◌≡◌, ◌<◌, All, IfOk, vec_len};
+ghost use Rattle.daemon_run.specs.Join.{HasSets};
 ghost use Rattle.licence_office.specs.Logs.{AreLogsOf};
 ghost use Rattle.licence_office.specs.Offices.{AreAt, AreDealt};
-ghost use Rattle.office_rows.specs.Ready.{HasSets, IsReady};
+ghost use Rattle.office_rows.specs.Ready.{IsReady};
 
 mod auditors;
 mod daemons;
 mod endings;
 mod glances;
-mod offices;
 mod sockets;
 mod trial_links;
 
@@ -58,6 +58,10 @@ FEATURE draw acme 1.0 permanent 1 SIGN=03\n";
 
 /// A pool that is good to the end of 2026.
 const UNTIL_2026: &[u8] = b"FEATURE edit acme 2.10 31-dec-2026 1 SIGN=01\n";
+
+/// Two pools of one name and version, the second of which is good for longer.
+const TWO_PERIODS: &[u8] = b"INCREMENT edit acme 2.0 31-dec-2026 1 SIGN=01\n\
+INCREMENT edit acme 2.0 30-jun-2027 1 SIGN=02\n";
 
 /// The first second of 2027 in UTC.
 const NEW_YEAR: u64 = 1_798_761_600;
@@ -217,25 +221,58 @@ fn entries_of(
     Ok(entries)
 }
 
-/// Plays a session whose link call of this number fails, and another one after it. It tells whether that call came.
-fn play(rt: &(impl Abort + AllocGlobal + Wait), row: &Row<'_>, failing: u64) -> Result<bool, Fail> {
+/// What came of two sessions, one after the other, and of their office.
+#[derive(Drop)]
+struct Played {
+    one: Outside,
+    next: Outside,
+    ends: (SessionEnd, SessionEnd),
+    told: OfficeEnd,
+}
+
+/// Plays a session whose link call of this number fails, and another one after it.
+fn play(
+    rt: &(impl Abort + AllocGlobal + Wait),
+    row: &Row<'_>,
+    failing: u64,
+) -> Result<Played, Fail> {
     let mut one = outside_of(rt, row.dialogue, failing, row.moments)?;
     let mut next = outside_of(rt, NEXT, u64::MAX, row.moments)?;
     let (office, mut passes, logs) = office_of(rt, row.licence, row.files)?;
     let ends = serve_two(rt, &office, &mut passes, &mut one, &mut next);
     let told = office.close_with_log(rt, passes, logs);
+    Ok(Played {
+        one,
+        next,
+        ends,
+        told,
+    })
+}
+
+/// Compares what came of a row's session with the row, and of the one after it with what is due. It tells whether a
+/// call of the first one's link failed.
+fn compare(rt: &(impl Abort + AllocGlobal), row: &Row<'_>, played: &Played) -> Result<bool, Fail> {
+    let talk = played.one.link.talk.bytes.as_slice();
     let whole = said(rt, row.dialogue)?;
-    assert!(rt; whole.starts_with(one.link.talk.bytes.as_slice()));
-    assert!(rt; next.link.talk.bytes.starts_with(said(rt, NEXT)?.as_slice()));
-    assert!(rt; ends.1 == SessionEnd::End);
-    let failed = one.link.faults > 0;
-    if failed {
-        assert!(rt; ends.0 == SessionEnd::LinkFault);
+    assert!(rt; whole.starts_with(talk));
+    let beginning = said(rt, NEXT)?;
+    assert!(rt;
+        played
+            .next
+            .link
+            .talk
+            .bytes
+            .starts_with(beginning.as_slice())
+    );
+    let (end, next_end) = played.ends;
+    assert!(rt; next_end == SessionEnd::End);
+    if played.one.link.faults > 0 {
+        assert!(rt; end == SessionEnd::LinkFault);
         return Ok(true);
     }
-    assert!(rt; ends.0 == row.end);
-    assert_eq!(rt; one.link.talk.bytes.len(), whole.len());
-    let made = entries_of(rt, &told, &Name::read(b"ann")?)?;
+    assert!(rt; end == row.end);
+    assert_eq!(rt; talk.len(), whole.len());
+    let made = entries_of(rt, &played.told, &Name::read(b"ann")?)?;
     assert!(rt; made.as_slice() == row.entries);
     Ok(false)
 }
@@ -243,7 +280,8 @@ fn play(rt: &(impl Abort + AllocGlobal + Wait), row: &Row<'_>, failing: u64) -> 
 /// Plays a session with each call of its link failing in turn, up to a run without a failure.
 fn play_all(rt: &(impl Abort + AllocGlobal + Wait), row: &Row<'_>) -> Result<(), Fail> {
     for call in 0..100 {
-        if !play(rt, row, call)? {
+        let played = play(rt, row, call)?;
+        if !compare(rt, row, &played)? {
             assert!(rt; call > 3);
             return Ok(());
         }
@@ -344,6 +382,25 @@ const SESSIONS: &[Row<'static>] = &[
             (0, Kind::Checkout, Reply::AlreadyHeld),
             (0, Kind::Checkin, Reply::Returned),
             (0, Kind::Checkin, Reply::NotHeld),
+        ],
+        ..PLAIN
+    },
+    // After the last day of the first of two pools the second one serves.
+    Row {
+        licence: TWO_PERIODS,
+        moments: &[NEW_YEAR - 1, NEW_YEAR],
+        dialogue: &[
+            HELLO,
+            (b"CHECKOUT edit 2.0\n", b"GRANTED SEAT 0 OPEN #0\n"),
+            (b"CHECKIN edit\n", b"RETURNED #1\n"),
+            (b"CHECKOUT edit 2.0\n", b"GRANTED SEAT 0 OPEN #0\n"),
+            (b"QUIT\n", b"BYE\n"),
+        ],
+        entries: &[
+            (0, Kind::Checkout, OPEN),
+            (0, Kind::Checkin, Reply::Returned),
+            (1, Kind::Checkout, OPEN),
+            (1, Kind::Quit, Reply::Returned),
         ],
         ..PLAIN
     },

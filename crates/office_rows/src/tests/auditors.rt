@@ -1,10 +1,10 @@
 //! What the auditor does while a session runs.
-use crate::tests::daemons::office_of;
-use daemon_outside::{Knock, MemPost, MemSite};
-use daemon_run::{Ended, serve};
+use crate::tests::daemons::{serve_two, site_of};
+use daemon_outside::MemSite;
+use daemon_run::Ended;
 use licence_office::OfficeEnd;
 use options_machine::Kind;
-use session_outside::{Feed, Gate, GatePlace, MemLink, Talk};
+use session_outside::{Gate, GatePlace};
 use std::alloc::{AllocError, Global};
 use std::sync::atomic::{AtomicU64, Ordering};
 use std::sync::{Arc, Wait};
@@ -41,55 +41,46 @@ impl Gate for TakenGate {
     }
 }
 
-/// What a post is made of at which one client sends this, or nobody comes where it is empty.
-fn post_of(alloc: Global, text: &[u8], gate: TakenGate) -> Result<MemPost<TakenGate>, AllocError> {
-    let mut knocks = Vec::new(alloc);
-    if !text.is_empty() {
-        let mut feeds = Vec::new(alloc);
-        feeds.push(Feed::Piece(Vec::from_slice(alloc, text)?))?;
-        let talk = Talk::make(alloc, 64, 4096)?;
-        knocks.push(Knock::Client(MemLink::make(feeds, Vec::new(alloc), talk)))?;
-    }
-    Ok(MemPost {
-        knocks,
-        moments: [0].to_vec(alloc)?,
-        gate,
+const WORKS_AND_SHUTS: &[u8] = b"HELLO ann h1 d1 p1\nCHECKOUT draft 2.0\nCHECKIN draft\nSHUTDOWN\n";
+
+/// A gate of a session that made no entry yet.
+fn gate_of(
+    taken: &Arc<AtomicU64, Global>,
+    missed: &Arc<AtomicU64, Global>,
+) -> Result<TakenGate, AllocError> {
+    Ok(TakenGate {
+        made: 0,
+        taken: Arc::try_clone(taken)?,
+        missed: Arc::try_clone(missed)?,
     })
 }
 
-const WORKS_AND_SHUTS: &[u8] = b"HELLO ann h1 d1 p1\nCHECKOUT draft 2.0\nCHECKIN draft\nSHUTDOWN\n";
+/// A site to which one client comes, at the first of its posts.
+fn site_with(
+    alloc: Global,
+    taken: &Arc<AtomicU64, Global>,
+    missed: &Arc<AtomicU64, Global>,
+) -> Result<MemSite<TakenGate>, AllocError> {
+    let (first, second) = (gate_of(taken, missed)?, gate_of(taken, missed)?);
+    site_of(alloc, (WORKS_AND_SHUTS, first), (b"", second))
+}
 
 #[test]
 fn auditor_runs(rt: HostRuntime) -> Result<(), Fail> {
-    let alloc = rt.alloc();
-    let taken = Arc::new(alloc, AtomicU64::new(0))?;
-    let missed = Arc::new(alloc, AtomicU64::new(0))?;
-    let mut posts = Vec::new(alloc);
-    for text in [WORKS_AND_SHUTS, b"".as_slice()] {
-        let gate = TakenGate {
-            made: 0,
-            taken: Arc::try_clone(&taken)?,
-            missed: Arc::try_clone(&missed)?,
-        };
-        posts.push(post_of(alloc, text, gate)?)?;
-    }
-    let path = String::from_str(alloc, "licenced")?;
-    let mut site = MemSite::make(alloc, path, posts, Vec::new(alloc))?;
-    let workers = Vec::with_capacity(alloc, 2)?;
-    let count = Arc::try_clone(&taken)?;
-    let (office, passes, logs) = office_of(&rt)?;
-    let logs = logs.counted_in(count);
-    let ended = serve(&rt, office, passes, logs, workers, &mut site, "licenced");
+    let taken = Arc::new(rt.alloc(), AtomicU64::new(0))?;
+    let missed = Arc::new(rt.alloc(), AtomicU64::new(0))?;
+    let mut site = site_with(rt.alloc(), &taken, &missed)?;
+    let ended = serve_two(&rt, &mut site, Arc::try_clone(&taken)?)?;
     let Ended::Served(OfficeEnd { tallies, logs }) = ended else {
         panic!(rt; "the bell is heard at each door");
     };
     assert_eq!(rt; (tallies.len(), logs.len()), (2, 2));
     assert_eq!(rt; missed.load(Ordering::SeqCst), 0);
     assert_eq!(rt; taken.load(Ordering::SeqCst), 2);
-    let mut kinds = logs[0].entries.iter().map(|entry| entry.request.kind);
-    assert!(rt; kinds.next() == Some(Kind::Checkout));
-    assert!(rt; kinds.next() == Some(Kind::Checkin));
-    assert!(rt; kinds.next().is_none() && !logs[0].cut);
+    let entries = logs[0].entries.as_slice();
+    assert_eq!(rt; (entries.len(), logs[0].cut), (2, false));
+    assert!(rt; entries[0].request.kind == Kind::Checkout);
+    assert!(rt; entries[1].request.kind == Kind::Checkin);
     assert_eq!(rt; (tallies[0].calls, tallies[1].calls), (2, 0));
     assert_eq!(rt; (logs[1].entries.len(), logs[1].cut), (0, false));
     Ok(())

@@ -1,8 +1,8 @@
 //! What one session is shown of another one while both run.
-use crate::tests::daemons::serve_two;
-use daemon_outside::{Knock, MemPost, MemSite};
+use crate::tests::daemons::{serve_two, site_of};
+use daemon_outside::MemSite;
 use daemon_run::Ended;
-use session_outside::{Feed, Gate, GatePlace, MemLink, Talk};
+use session_outside::{Gate, GatePlace};
 use std::alloc::{AllocError, Global};
 use std::sync::atomic::{AtomicU64, Ordering};
 use std::sync::{Arc, Wait};
@@ -67,54 +67,50 @@ impl Gate for SideGate {
     }
 }
 
-/// What a post is made of at which one client sends this.
-fn post_of(alloc: Global, text: &[u8], gate: SideGate) -> Result<MemPost<SideGate>, AllocError> {
-    let mut feeds = Vec::new(alloc);
-    feeds.push(Feed::Piece(Vec::from_slice(alloc, text)?))?;
-    let talk = Talk::make(alloc, 64, 4096)?;
-    let mut knocks = Vec::new(alloc);
-    knocks.push(Knock::Client(MemLink::make(feeds, Vec::new(alloc), talk)))?;
-    Ok(MemPost {
-        knocks,
-        moments: [0].to_vec(alloc)?,
-        gate,
-    })
-}
-
 const TAKES: &[u8] = b"HELLO ann h1 d1 p1\nCHECKOUT draft 2.0\nQUIT\n";
 
 const GLANCES: &[u8] = b"HELLO bob h2 d2 p2\nGLANCE draft\nSHUTDOWN\n";
 
-const SHOWN: &[u8] = b"GLANCE FRONT 1 HELD 1 ";
+/// What the second session is told, behind what it says.
+const SHOWN: &[u8] = b"WELCOME 1\nGLANCE FRONT 1 HELD 1 ";
+
+/// The gate of one of two sessions that meet.
+fn gate_of(is_first: bool, meeting: &Arc<Meeting, Global>) -> Result<SideGate, AllocError> {
+    Ok(SideGate {
+        is_first,
+        lines: 0,
+        meeting: Arc::try_clone(meeting)?,
+    })
+}
+
+/// A site to which the clients of both sessions come.
+fn site_with(
+    alloc: Global,
+    meeting: &Arc<Meeting, Global>,
+) -> Result<MemSite<SideGate>, AllocError> {
+    let (first, second) = (gate_of(true, meeting)?, gate_of(false, meeting)?);
+    site_of(alloc, (TAKES, first), (GLANCES, second))
+}
 
 #[test]
 fn glance_sees_others(rt: HostRuntime) -> Result<(), Fail> {
-    let alloc = rt.alloc();
-    let meeting = Arc::new(
-        alloc,
-        Meeting {
-            entered: AtomicU64::new(0),
-            shown: AtomicU64::new(0),
-            missed: AtomicU64::new(0),
-        },
-    )?;
-    let mut posts = Vec::new(alloc);
-    for (is_first, text) in [(true, TAKES), (false, GLANCES)] {
-        let gate = SideGate {
-            is_first,
-            lines: 0,
-            meeting: Arc::try_clone(&meeting)?,
-        };
-        posts.push(post_of(alloc, text, gate)?)?;
-    }
-    let path = String::from_str(alloc, "licenced")?;
-    let mut site = MemSite::make(alloc, path, posts, Vec::new(alloc))?;
-    assert!(rt; matches!(serve_two(&rt, &mut site)?, Ended::Served(_)));
+    let meeting = Meeting {
+        entered: AtomicU64::new(0),
+        shown: AtomicU64::new(0),
+        missed: AtomicU64::new(0),
+    };
+    let meeting = Arc::new(rt.alloc(), meeting)?;
+    let taken = Arc::new(rt.alloc(), AtomicU64::new(0))?;
+    let mut site = site_with(rt.alloc(), &meeting)?;
+    assert!(rt; matches!(serve_two(&rt, &mut site, taken)?, Ended::Served(_)));
     assert_eq!(rt; meeting.missed.load(Ordering::SeqCst), 0);
     assert_eq!(rt; site.kept.len(), 2);
     let links = &site.kept[1].door.kept;
     assert_eq!(rt; links.len(), 1);
     let told = links[0].talk.bytes.as_slice();
-    assert!(rt; told.windows(SHOWN.len()).any(|window| window == SHOWN));
+    let Some(told) = told.strip_prefix(GLANCES) else {
+        panic!(rt; "the talk begins with what is said");
+    };
+    assert!(rt; told.starts_with(SHOWN));
     Ok(())
 }
