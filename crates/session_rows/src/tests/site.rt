@@ -54,19 +54,24 @@ fn only<T: Drop>(alloc: Global, item: T) -> Result<Vec<T>, AllocError>
     Ok(items)
 }
 
-/// The rule sets of these options files, for a pool of so many licences.
+/// The rules of an options file, for this pool.
+fn rules_of(rt: &(impl Abort + AllocGlobal), file: &[u8], pool: &Pool) -> Result<DeskRules, Fail> {
+    assert!(rt; file.len() < 1 << 32);
+    let options = read_options(rt.alloc(), file)?;
+    Ok(DeskRules::of(rt.alloc(), &options, pool)?)
+}
+
+/// The rule sets of these options files, for this pool.
 fn rule_sets(
     rt: &(impl Abort + AllocGlobal),
     files: &[&[u8]],
-    count: u32,
+    pool: &Pool,
 ) -> Result<Vec<DeskRules>, Fail>
     ensures { IfOk result (λ sets. AreSets sets.items (set_at sets.items 0).count) }
 {
     let mut sets = Vec::new(rt.alloc());
     for file in files {
-        assert!(rt; file.len() < 1_000_000);
-        let options = read_options(rt.alloc(), file)?;
-        sets.push(DeskRules::of(rt.alloc(), &options, &pool(count)?)?)?;
+        sets.push(rules_of(rt, file, pool)?)?;
     }
     assert!(rt; are_sets(sets.as_slice()));
     Ok(sets)
@@ -146,11 +151,12 @@ impl Site {
     ) -> Result<Site, Fail>
         ensures { IfOk result (λ site. IsManned site.counters.items site.other site.office) }
     {
-        let sets = rule_sets(rt, files, count)?;
+        let pool = pool(count)?;
+        let sets = rule_sets(rt, files, &pool)?;
         let free = first_free(sets.as_slice());
         let many = sets.len() as u32;
         let (desk, first, other) = new_desk(rt.alloc(), sets)?;
-        let pools = PoolList::of(rt.alloc(), only(rt.alloc(), pool(count)?)?)?;
+        let pools = PoolList::of(rt.alloc(), only(rt.alloc(), pool)?)?;
         let desks = only(rt.alloc(), desk)?;
         let counters = only(rt.alloc(), TurnCounter::of(first, free))?;
         Ok(Site {
