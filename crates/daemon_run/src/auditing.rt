@@ -16,8 +16,12 @@ use std::sync::atomic::{AtomicU64, Ordering};
 use std::thread::{Threads, join};
 use std::time::Duration;
 
-/// For how many milliseconds the auditor sleeps where no log had an entry, and before the workers have begun.
+/// For how many milliseconds the auditor sleeps between two sweeps, and before the workers have begun.
 const NAP: u64 = 50;
+
+/// How many entries of each log a sweep takes, at most. A log's queue has room for all that the log keeps, so no session
+/// waits for the auditor, and between its sweeps it leaves the processors to them.
+const ROUNDS: u32 = 16;
 
 /// How often it sleeps before the workers have begun.
 const NAP_LIMIT: u32 = 20;
@@ -52,7 +56,18 @@ fn have_begun<R: Wait>(rt: &R, word: &AtomicU64) -> bool {
     !is_at(word, BEFORE)
 }
 
-/// Takes entries out of the logs as they come, until the workers have ended.
+/// Takes entries out of the logs, one of each that has one in a round.
+fn sweep<R: Wait>(rt: &R, logs: &mut OfficeLogs)
+    ensures { (logs.new.keepers ≡ logs.old.keepers) × (logs.new.parties ≡ logs.old.parties) }
+{
+    for _round in 0..ROUNDS {
+        if logs.take_round(rt) == 0 {
+            return;
+        }
+    }
+}
+
+/// Takes entries out of the logs, sweep after sweep, until the workers have ended.
 fn audit<R: Wait>(rt: &R, mut logs: OfficeLogs, word: &AtomicU64) -> OfficeLogs
     ensures { (result.keepers ≡ logs.keepers) × (result.parties ≡ logs.parties) }
 {
@@ -60,9 +75,7 @@ fn audit<R: Wait>(rt: &R, mut logs: OfficeLogs, word: &AtomicU64) -> OfficeLogs
         return logs;
     }
     for _ in rt.forever() {
-        if logs.take_round(rt) > 0 {
-            continue;
-        }
+        sweep(rt, &mut logs);
         if is_at(word, ENDED) {
             break;
         }
