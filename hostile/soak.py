@@ -13,6 +13,10 @@ CLIENTS = 64
 POOLS = 4
 OPTIONS = "LINGER f1 2\nMAX 8 f2 USER u1\nRESERVE 2 f3 USER u2\n"
 SEATS = 24
+# So many requests fill the logs of all pools. They are taken out of their queues within so many seconds, 320 entries a
+# second of each, and the room for the 4,096 that each keeps becomes resident meanwhile.
+FIRST = 200_000
+LOG_SECONDS = 15
 
 
 def resident(process):
@@ -28,6 +32,15 @@ def left(daemon):
     """What STATUS says of each pool, once nobody else is there."""
     with daemon.session("last h d p") as last:
         return [last.ask(f"STATUS f{pool}") for pool in range(POOLS)]
+
+
+def words(soak, daemon, requests):
+    return [soak, daemon.path, str(CLIENTS), str(requests), str(POOLS), "1"]
+
+
+def fill_logs(soak, daemon):
+    subprocess.run(words(soak, daemon, FIRST), stdout=subprocess.DEVNULL, check=True)
+    time.sleep(LOG_SECONDS)
 
 
 def watch(daemon, soaking):
@@ -48,9 +61,9 @@ def main():
         daemon.is_up()
         time.sleep(1)
         files = open_files(daemon.process)
-        words = [soak, daemon.path, str(CLIENTS), str(requests), str(POOLS), "1"]
+        fill_logs(soak, daemon)
         begun = time.monotonic()
-        with subprocess.Popen(words, stdout=subprocess.PIPE, text=True) as soaking:
+        with subprocess.Popen(words(soak, daemon, requests), stdout=subprocess.PIPE, text=True) as soaking:
             taken = watch(daemon, soaking)
             told = soaking.stdout.read().split()
         seconds = time.monotonic() - begun
