@@ -1,10 +1,10 @@
 //! How a seat is made to agree with an entry.
-ghost use Rattle.std.specs.Prelude.{◌≡◌, ◌||◌, true, false};
+ghost use Rattle.std.specs.Prelude.{◌≡◌, ◌<◌, ◌||◌, ◌∷◌, ◌++◌, [], true, false};
 ghost use Rattle.desk_seats.specs.Passes.{IsOut};
 ghost use Rattle.desk_seats.specs.Turns.{pass_in_turn, Goes};
 ghost use Rattle.counter.specs.Account.{brings_seat};
 ghost use Rattle.feature_desk.specs.Sitters.{IsOf};
-ghost use Rattle.feature_desk.specs.Sittings.{is_entering, is_hold, pass_in, AreLow, Sits};
+ghost use Rattle.feature_desk.specs.Sittings.{is_entering, is_hold, pass_in, AreLow, IsHeld, Sits};
 ghost use Rattle.feature_desk.specs.Seatings.{GoesOn, IsAt, Keeps, MatchedAs, Matches, Starts, Steps};
 ghost use Rattle.feature_desk.specs.Standing.{is_of_rereading};
 
@@ -12,7 +12,7 @@ use crate::desk::Desk;
 use crate::passes::{Chair, DeskPass, Noted, Seating};
 use core::mem::replace_with;
 use counter::Asked;
-use desk_seats::SeatTurn;
+use desk_seats::{SeatHold, SeatTurn};
 use options_machine::Reply;
 use std::sync::Wait;
 
@@ -31,11 +31,11 @@ impl Desk {
     {
         let Noted {
             ticket,
-            chair,
+            mut chair,
             queued,
             asked,
         } = noted;
-        let chair = self.seated(rt, chair, brings_seat(&asked.reply), asked.held);
+        self.reseat(rt, &mut chair, &asked);
         (
             DeskPass {
                 ticket,
@@ -107,35 +107,31 @@ impl Desk {
         ensures matched { Matches (brings_seat asked.now.reply) asked.now.held (pass_in chair.old) (pass_in chair.new) }
         ensures low { AreLow self.now.seats.net.width (pass_in chair.old).got → AreLow self.now.seats.net.width (pass_in chair.new).got }
         ensures goes { Goes (pass_in chair.old) (pass_in chair.new) }
+        ensures same { brings_seat asked.now.reply ≡ false → is_hold chair.old ≡ asked.now.held → pass_in chair.new ≡ pass_in chair.old }
     {
-        let brings = brings_seat(&asked.reply);
-        let held = asked.held;
-        replace_with(
-            chair,
-            (),
-            |chair, _none| (self.seated(rt, chair, brings, held), ()),
-        );
+        if brings_seat(&asked.reply) {
+            replace_with(
+                chair,
+                (),
+                |chair, _none| (Chair::Hold(self.entered(rt, chair)), ()),
+            );
+        } else if !asked.held && chair.is_hold() {
+            replace_with(chair, (), |chair, _none| (self.left(chair), ()));
+        }
     }
 
-    /// The chair that agrees.
-    fn seated<R: Wait>(&self, rt: &R, chair: Chair, brings: bool, held: bool) -> Chair
+    /// Enters a seat. What is held is left before.
+    fn entered<R: Wait>(&self, rt: &R, chair: Chair) -> SeatHold
         requires own { (pass_in chair).table ≡ self.now.seats }
         requires sits { Sits chair }
-        requires way { is_entering chair ≡ true → brings ≡ true }
-        requires stays { brings ≡ false → held ≡ true → is_hold chair ≡ true }
-        ensures own { ((pass_in result).table ≡ (pass_in chair).table) × ((pass_in result).number ≡ (pass_in chair).number) }
-        ensures sits { Sits result × (is_entering result ≡ false) × (is_hold result ≡ (brings || held)) }
-        ensures matched { Matches brings held (pass_in chair) (pass_in result) }
-        ensures low { AreLow self.now.seats.net.width (pass_in chair).got → AreLow self.now.seats.net.width (pass_in result).got }
-        ensures goes { Goes (pass_in chair) (pass_in result) }
-        ensures same { brings ≡ false → is_hold chair ≡ held → pass_in result ≡ pass_in chair }
+        ensures own { (result.pass.table ≡ (pass_in chair).table) × (result.pass.number ≡ (pass_in chair).number) }
+        ensures held { IsHeld result.pass result.card.number }
+        ensures low { result.card.number < self.now.seats.net.width }
+        ensures got { result.pass.got ≡ (pass_in chair).got ++ result.card.number ∷ [] }
+        ensures goes { Goes (pass_in chair) result.pass }
     {
-        if brings {
-            let turn = self.stepped(chair);
-            Chair::Hold(self.seats.go_on(rt, turn))
-        } else {
-            self.kept(chair, held)
-        }
+        let turn = self.stepped(chair);
+        self.seats.go_on(rt, turn)
     }
 
     /// Keeps what is held, or leaves it.
