@@ -5,46 +5,75 @@ import subprocess
 import sys
 import tempfile
 import time
+from contextlib import ExitStack, contextmanager
 
 sys.path.insert(0, "checks")
 from daemon import Daemon
 
 CLIENTS = (1, 16, 256)
 RUNS = 5
-MILLISECONDS = 2000
+TURNS = 3
+MILLISECONDS = 1000
 PERMANENT = "FEATURE f{} acme 1.0 permanent 300 SIGN=00AB\n"
+SITES = {
+    "one pool": (1, ""),
+    "64 pools": (64, ""),
+    "1,000 EXCLUDE lines": (1, "".join(f"EXCLUDE f0 USER nobody{n}\n" for n in range(1000))),
+    "1,000 INCLUDE lines, those of the clients last": (1, "".join(f"INCLUDE f0 USER u{n}\n" for n in reversed(range(1000)))),
+    "64 pools, 1,000 EXCLUDE lines over them": (64, "".join(f"EXCLUDE f{n % 64} USER nobody{n}\n" for n in range(1000))),
+}
 TICKS = os.sysconf("SC_CLK_TCK")
 
 
-def ask(peers, path, clients, pools=1):
+def mean(numbers):
+    return sum(numbers) / len(numbers)
+
+
+def ask(peers, path, clients, pools, milliseconds):
     """Requests a second, and three percentiles of the time to an answer in microseconds."""
-    words = [f"{peers}/ask", path, str(clients), str(MILLISECONDS), str(pools)]
+    words = [f"{peers}/ask", path, str(clients), str(milliseconds), str(pools)]
     told = subprocess.run(words, stdout=subprocess.PIPE, check=True)
     return [float(word) for word in told.stdout.split()]
 
 
-def echo(peers, clients):
-    """The same of the echo."""
+@contextmanager
+def echo(peers):
+    """The echo server's socket."""
     with tempfile.TemporaryDirectory() as folder:
         path = f"{folder}/socket"
         server = subprocess.Popen([f"{peers}/echo", path])
         try:
             while not os.path.exists(path):
                 time.sleep(0.001)
-            return ask(peers, path, clients)
+            yield path
         finally:
             server.kill()
             server.wait()
 
 
-def daemon(program, peers, clients, pools=1, options=""):
-    with Daemon(program, "".join(PERMANENT.format(n) for n in range(pools)), options, sessions=max(clients + 1, 2) if clients < 256 else 256) as served:
+@contextmanager
+def daemon(program, clients, pools, options):
+    """The socket of a daemon on such a site."""
+    licence = "".join(PERMANENT.format(n) for n in range(pools))
+    with Daemon(program, licence, options, sessions=min(clients + 1, 256)) as served:
         served.is_up()
-        found = ask(peers, served.path, clients, pools)
+        yield served.path
         status, _, err = served.stopped()
         if status:
             sys.exit(f"bench: status {status}, {err}")
-        return found
+
+
+def run(program, peers, clients):
+    """Of the echo and the daemon on each site, all up at once and asked in turns, the mean of what their turns found."""
+    with ExitStack() as up:
+        servers = [("the echo", up.enter_context(echo(peers)), 1)]
+        for site, (pools, options) in SITES.items():
+            servers.append((site, up.enter_context(daemon(program, clients, pools, options)), pools))
+        turns = {name: [] for name, _, _ in servers}
+        for turn in range(TURNS):
+            for name, path, pools in servers[turn:] + servers[:turn]:
+                turns[name].append(ask(peers, path, clients, pools, MILLISECONDS))
+    return {name: [mean(figure) for figure in zip(*found)] for name, found in turns.items()}
 
 
 def best(runs):
@@ -52,39 +81,21 @@ def best(runs):
     return [max(run[0] for run in runs), *(min(run[n] for run in runs) for n in (1, 2, 3))]
 
 
-def mean_rate(runs):
-    return sum(run[0] for run in runs) / len(runs)
-
-
 def line_of(runs, echoes):
     """Requests a second, the best and the mean, each with what it is of the echo's; the percentiles, and what the 99th is of the echo's."""
     figures, theirs = best(runs), best(echoes)
-    rate, mean, tails = figures[0], mean_rate(runs), " ".join(f"{it:.1f}" for it in figures[1:])
-    return f"{rate:.0f} {rate / theirs[0]:.2f}, {mean:.0f} {mean / mean_rate(echoes):.2f}; {tails}; {figures[2] / theirs[2]:.2f}"
+    rate, usual, tails = figures[0], mean([run[0] for run in runs]), " ".join(f"{it:.1f}" for it in figures[1:])
+    of_usual = usual / mean([run[0] for run in echoes])
+    return f"{rate:.0f} {rate / theirs[0]:.2f}, {usual:.0f} {of_usual:.2f}; {tails}; {figures[2] / theirs[2]:.2f}"
 
 
 def compare(program, peers):
-    """The echo and the daemon on each site, in turns."""
-    excludes = "".join(f"EXCLUDE f0 USER nobody{n}\n" for n in range(1000))
-    includes = "".join(f"INCLUDE f0 USER u{n}\n" for n in reversed(range(1000)))
-    spread = "".join(f"EXCLUDE f{n % 64} USER nobody{n}\n" for n in range(1000))
-    sites = {
-        "one pool": (1, ""),
-        "64 pools": (64, ""),
-        "1,000 EXCLUDE lines": (1, excludes),
-        "1,000 INCLUDE lines, those of the clients last": (1, includes),
-        "64 pools, 1,000 EXCLUDE lines over them": (64, spread),
-    }
+    """The echo and the daemon on each site."""
     print("clients: requests a second, the best and the mean, and of the echo's; p50, p99, p999 in us; p99 of the echo's")
     for clients in CLIENTS:
-        theirs, ours = [], {site: [] for site in sites}
-        for _ in range(RUNS):
-            theirs.append(echo(peers, clients))
-            for site, found in ours.items():
-                found.append(daemon(program, peers, clients, *sites[site]))
-        print(f"{clients}, the echo: {line_of(theirs, theirs)}")
-        for site, found in ours.items():
-            print(f"{clients}, {site}: {line_of(found, theirs)}", flush=True)
+        runs = [run(program, peers, clients) for _ in range(RUNS)]
+        for name in runs[0]:
+            print(f"{clients}, {name}: {line_of([it[name] for it in runs], [it['the echo'] for it in runs])}", flush=True)
 
 
 def status_of(process, field):
