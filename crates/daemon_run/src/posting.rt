@@ -6,7 +6,6 @@ ghost use Rattle.daemon_run.specs.Gives.{AreStarted, passes_of};
 use crate::worker::Worker;
 use daemon_outside::{Site, SiteFailed};
 use door_worker::DoorEnd;
-use session::Buffers;
 
 /// Makes one post for each party, in order, and a worker of it. Where one fails, the posts made so far stand, and the
 /// parties that have none are left in `passes`. It takes no memory.
@@ -32,7 +31,6 @@ pub fn post_all<P: Drop, T: Site>(
         match site.post() {
             Ok(post) => workers.push_reserved(Worker {
                 pass,
-                room: Buffers::make(),
                 post,
                 end: DoorEnd::Rung,
             }),

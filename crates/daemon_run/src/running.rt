@@ -9,6 +9,7 @@ use daemon_outside::Door;
 use door_worker::serve_door;
 use feature_desk::{Desk, DeskPass};
 use office_view::OfficeView;
+use session::Buffers;
 use session_outside::{Bell, Clock, Gate};
 use std::sync::Wait;
 use std::thread::{Threads, for_each_mut};
@@ -26,6 +27,7 @@ fn work<R: Wait, D: Door, K: Clock, B: Bell, G: Gate>(
     ensures of { AreOf IsOf account_of worker.new.pass.items office.now }
     ensures idle { AreIdle account_of worker.new.pass.items }
 {
+    let mut room = Buffers::make();
     worker.end = serve_door(
         rt,
         office,
@@ -34,7 +36,7 @@ fn work<R: Wait, D: Door, K: Clock, B: Bell, G: Gate>(
         &mut worker.post.clock,
         &mut worker.post.gate,
         &mut worker.post.bell,
-        &mut worker.room,
+        &mut room,
     );
 }
 

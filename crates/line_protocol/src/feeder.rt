@@ -25,10 +25,10 @@ pub enum Fed {
 /// was given last, and whether a line was too long.
 #[derive(Drop)]
 pub struct Feeder {
-    bytes: [u8; LINE_LIMIT],
     len: usize,
     given: bool,
     over: bool,
+    bytes: [u8; LINE_LIMIT],
 }
 
 impl Model for Feeder {
@@ -48,10 +48,10 @@ impl Feeder {
         ensures { result ≡ record { bytes = []; given = false; over = false } }
     {
         Feeder {
-            bytes: [0; LINE_LIMIT],
             len: 0,
             given: false,
             over: false,
+            bytes: [0; LINE_LIMIT],
         }
     }
 

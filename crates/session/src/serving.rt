@@ -23,21 +23,22 @@ use std::sync::Wait;
 /// How many bytes are read at once, at most.
 const PIECE_ROOM: usize = 4096;
 
-/// The room of a session: for what is read, for the line that is heard, and for the line that is written.
+/// The room of a session: for the line that is written, for the line that is heard, and for what is read. What a request
+/// touches comes first, so that it lies together.
 #[derive(Drop)]
 pub struct Buffers {
-    piece: [u8; PIECE_ROOM],
     text: [u8; 160],
     feeder: Feeder,
+    piece: [u8; PIECE_ROOM],
 }
 
 impl Buffers {
     /// Room for one session after another. It takes no memory beside itself.
     pub fn make() -> Buffers {
         Buffers {
-            piece: [0; PIECE_ROOM],
             text: [0; 160],
             feeder: Feeder::make(),
+            piece: [0; PIECE_ROOM],
         }
     }
 }

@@ -8,7 +8,7 @@ use crate::player::Player;
 use daemon_run::Worker;
 use feature_desk::Desk;
 use office_view::OfficeView;
-use session::serve_session;
+use session::{Buffers, serve_session};
 use session_outside::{Bell, Clock, Gate};
 use std::sync::Wait;
 use std::thread::{Threads, for_each_mut};
@@ -25,6 +25,7 @@ fn play<R: Wait, D, K: Clock, B: Bell, G: Gate>(
     ensures of { AreOf IsOf account_of worker.new.pass.counters.items office.now }
     ensures idle { AreIdle account_of worker.new.pass.counters.items }
 {
+    let mut room = Buffers::make();
     serve_session(
         rt,
         office,
@@ -33,7 +34,7 @@ fn play<R: Wait, D, K: Clock, B: Bell, G: Gate>(
         &mut worker.post.clock,
         &mut worker.post.gate,
         &mut worker.post.bell,
-        &mut worker.room,
+        &mut room,
     );
 }
 

@@ -12,7 +12,7 @@ loop-pass-preserved g c =
     let p = c.in-Some.pass in
     let r = c.in-Ok.ensures in
     let w : Worker g.row.P.Denot g.row.T-Door.Denot g.row.T-Clock.Denot g.row.T-Bell.Denot g.row.T-Gate.Denot
-    = record { pass = p; room = c.make.result; post = c.in-Ok.post; end = Rung } in
+    = record { pass = p; post = c.in-Ok.post; end = Rung } in
     let i : c.push_reserved.new.self.items ≡ c.loop-pass.workers.items ++ w ∷ [] = c.push_reserved.ensures.items in
     let e = popped c.loop-pass.passes.items c.pop.new.self.items _ p c.pop.ensures.items c.in-Some.is in
     let here : IsStarted g.T.Door.Door.talks g.T.Clock.Clock.gave g.T.Door.Door.faults g.T.Door.Door.quiets g.T.Door.Door.fails g.T.Door.Door.lent g.T.Bell.Bell.tolls g.T.Bell.Bell.rings (g.T.Site.made c.args.site.now + length c.loop-pass.workers.items) w
