@@ -29,8 +29,8 @@ impl Ruling<Book> for SetsOf {
 /// A book behind its lock, in the opening state, with one to four rule sets of one count; the passes of the parties 0
 /// to `n` - 1, in order, 1 to 256; and the end of its log at which entries come out.
 ///
-/// It takes all memory that book, lock and log ever need, but what the board takes at its first entries. `NoMemory`
-/// comes where there is not so much. It waits for nobody, since the board has no reader yet.
+/// It takes all memory that book, lock, log and board ever need. `NoMemory` comes where there is not so much. It waits
+/// for nobody, since the board has no reader yet.
 pub fn lock_book<R: Wait>(
     rt: &R,
     alloc: Global,

@@ -46,8 +46,8 @@ impl Desk {
     /// A desk in the opening state, with one to four rule sets of one count, over the seats of a net as wide as the
     /// count or the number of its parties; the passes of all parties, in order; and the keeper of its log.
     ///
-    /// It takes all memory that the desk ever needs, but what its board takes at the first entries. `NoMemory` comes
-    /// where there is not so much. It waits for nobody, since the board has no reader yet.
+    /// It takes all memory that the desk ever needs. `NoMemory` comes where there is not so much. It waits for nobody,
+    /// since the board has no reader yet.
     pub fn make_many<R: Wait>(
         rt: &R,
         alloc: Global,
@@ -75,8 +75,8 @@ impl Desk {
     /// A party that meets fewer others at the gate than there are seats goes past the tree. There are more than twice
     /// as many parties as seats, and the two numbers together are at most 256.
     ///
-    /// It takes all memory that the desk ever needs, but what its board takes at the first entries. `NoMemory` comes
-    /// where there is not so much. It waits for nobody, since the board has no reader yet.
+    /// It takes all memory that the desk ever needs. `NoMemory` comes where there is not so much. It waits for nobody,
+    /// since the board has no reader yet.
     pub fn make_gated<R: Wait>(
         rt: &R,
         alloc: Global,

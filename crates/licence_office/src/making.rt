@@ -143,9 +143,8 @@ impl Office {
     /// The desks of a licence's pools, in order, each with one rule set for each of one to four options files; the
     /// passes of 2 to 256 parties, in order; and the logs of the desks.
     ///
-    /// It takes all memory that the office ever needs, but what the boards of its desks take at their first entries.
-    /// `NoMemory` comes where there is not so much; the desks that were made are closed then. It waits for nobody,
-    /// since nobody has a pass yet.
+    /// It takes all memory that the office ever needs. `NoMemory` comes where there is not so much; the desks that were
+    /// made are closed then. It waits for nobody, since nobody has a pass yet.
     pub fn make_many<R: Wait>(
         rt: &R,
         alloc: Global,

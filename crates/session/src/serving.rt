@@ -21,10 +21,10 @@ use session_outside::{Bell, Clock, Gate, GatePlace, Got, Link};
 use std::sync::Wait;
 
 /// How many bytes are read at once, at most.
-const PIECE_ROOM: usize = 4096;
+const PIECE_ROOM: usize = 1024;
 
 /// The room of a session: for the line that is written, for the line that is heard, and for what is read. What a request
-/// touches comes first, so that it lies together.
+/// touches comes first, and the room is small, so that it lies in few pages.
 #[derive(Drop)]
 pub struct Buffers {
     text: [u8; 160],

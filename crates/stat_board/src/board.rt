@@ -67,7 +67,12 @@ impl Board {
         let (head, note) = BoardNote::open::<X, M>(about, glance);
         let mut share = ReaderShare::vacant(alloc, &note)?;
         deal(&mut share, &note, &mut passes, n)?;
-        let writer = NoteWriter::new(alloc, note.copy(), note.copy(), 1)?;
+        let mut writer = NoteWriter::new(alloc, note.copy(), note.copy(), 1)?;
+        // The first operation takes the memory of the writer's log, which never has more than two.
+        if writer.append(note.copy()).is_err() {
+            drop(writer.take(rt));
+            return Err(NoMemory);
+        }
         let mut writer = open(writer, rt);
         if let Some(reader) = informed(&mut writer, &note) {
             share.put(reader);
