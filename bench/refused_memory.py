@@ -58,7 +58,7 @@ ADVICE = "options: line 9: RESERVE is cut to 2 at pool 2\noptions: line 15: a ti
 TRIAL = "CLIENTS 4 SEATS 2 ROUNDS 50\nGRANTS 200\nCARD USES 200\n"
 LICENCE = "FEATURE edit acme 2.0 permanent 1 SIGN=00AB\n"
 # What a daemon answers and leaves, its moments and parties put aside.
-ASKED = (("HELLO ann h1 d1 p1", r"WELCOME \d"), ("CHECKOUT edit 1.0", "GRANTED SEAT 0 OPEN #0"), ("GLANCE edit", "GLANCE FRONT ([01]) HELD \\1 LINGERING 0 OPEN \\1 OF 1 QUEUED 0"), ("SHUTDOWN", "STOPPING"))
+ASKED = (("HELLO ann h1 d1 p1", r"WELCOME \d"), ("CHECKOUT edit 1.0", "GRANTED SEAT 0 OPEN #0"), ("GLANCE edit", "GLANCE FRONT 1 HELD 1 LINGERING 0 OPEN 1 OF 1 QUEUED 0"), ("SHUTDOWN", "STOPPING"))
 LOG = (
     "ENTRY 0 #0 T P ann h1 d1 p1 CHECKOUT GRANTED OPEN\n"
     "ENTRY 0 #1 T P ann h1 d1 p1 QUIT RETURNED\n"
