@@ -1,6 +1,7 @@
 #!/bin/sh
-# The layout that the repository keeps: the one line of HANDLES, each crate in crates.txt and in the documents, no source
-# file of 800 lines or more, and looks at a table without a seat in the ticket lock alone.
+# The layout that the repository keeps: the one line of HANDLES, each crate in crates.txt and in the documents, no file
+# named in a document that isn't there, no source file of 800 lines or more, and looks at a table without a seat in the
+# ticket lock alone.
 cd "$(dirname "$0")/.." || exit 1
 wrong=0
 
@@ -16,6 +17,17 @@ for crate in crates/*/; do
     grep -q "^$name:" crates.txt || say "$name isn't in crates.txt"
     for page in README.md docs/ARCHITECTURE.md docs/PROOFS.md; do
         grep -q "\`$name\`" "$page" || say "$page doesn't name $name"
+    done
+done
+
+# A page names a file by its path from the top, from crates/, or from the folder of the crate that it speaks of.
+for page in README.md docs/*.md; do
+    for path in $(grep -o '`[A-Za-z0-9_./-]*/[A-Za-z0-9_.-]*\.[a-z]*`' "$page" | tr -d '`' | sort -u); do
+        case $path in */out/*) continue ;; esac
+        for found in "$path" "crates/$path" crates/*/"$path"; do
+            [ ! -e "$found" ] || continue 2
+        done
+        say "$page names $path, which isn't there"
     done
 done
 

@@ -12,6 +12,7 @@ mod name_ref;
 mod note;
 mod printed_day;
 mod room;
+mod same;
 mod version;
 
 pub use client::{Client, Rule, RuleLine, Who, WhoKind};
@@ -24,4 +25,5 @@ pub use name_ref::NameRef;
 pub use no_memory::NoMemory;
 pub use note::{Note, NoteKind};
 pub use room::{put, put_number};
+pub use same::same_bytes;
 pub use version::Version;

@@ -2,6 +2,7 @@ ghost use Rattle.std.specs.Prelude.{◌≡◌, ◌≤◌, length};
 ghost use Rattle.lic_types.specs.Name.{IsName, filled_room, name_of};
 
 use crate::name_ref::NameRef;
+use crate::same::same_bytes;
 use std::cmp::Ordering;
 use std::fmt;
 use std::fmt::Write;
@@ -56,7 +57,7 @@ impl PartialEq for Name {
     ghost laws = { partial_equiv_from_equiv nat_list_eq_equiv };
 
     fn eq(&self, other: &Self) -> bool {
-        self.bytes() == other.bytes()
+        same_bytes(self.bytes(), other.bytes())
     }
 }
 

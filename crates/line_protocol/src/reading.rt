@@ -9,7 +9,7 @@ ghost use Rattle.line_protocol.specs.Requests.{asked_of, client_of, feature_of, 
 
 use crate::wire::{Wire, WireFault};
 use lic_text::{Words, number, words_in};
-use lic_types::{ClientRef, NameRef, Version};
+use lic_types::{ClientRef, NameRef, Version, same_bytes};
 
 /// The numbers of rule sets are below this.
 const SET_END: u64 = 1 << 32;
@@ -103,27 +103,27 @@ fn read_client<'a>(
 fn read_verb(verb: &[u8]) -> Result<Verb, WireFault>
     ensures { result ≡ verb_of verb.now }
 {
-    if verb == b"HELLO".as_slice() {
+    if same_bytes(verb, b"HELLO") {
         Ok(Verb::Hello)
-    } else if verb == b"CHECKOUT".as_slice() {
+    } else if same_bytes(verb, b"CHECKOUT") {
         Ok(Verb::Checkout)
-    } else if verb == b"QUEUE".as_slice() {
+    } else if same_bytes(verb, b"QUEUE") {
         Ok(Verb::Queue)
-    } else if verb == b"CHECKIN".as_slice() {
+    } else if same_bytes(verb, b"CHECKIN") {
         Ok(Verb::Checkin)
-    } else if verb == b"BEAT".as_slice() {
+    } else if same_bytes(verb, b"BEAT") {
         Ok(Verb::Beat)
-    } else if verb == b"LOOK".as_slice() {
+    } else if same_bytes(verb, b"LOOK") {
         Ok(Verb::Look)
-    } else if verb == b"STATUS".as_slice() {
+    } else if same_bytes(verb, b"STATUS") {
         Ok(Verb::Status)
-    } else if verb == b"GLANCE".as_slice() {
+    } else if same_bytes(verb, b"GLANCE") {
         Ok(Verb::Glance)
-    } else if verb == b"REREAD".as_slice() {
+    } else if same_bytes(verb, b"REREAD") {
         Ok(Verb::Reread)
-    } else if verb == b"QUIT".as_slice() {
+    } else if same_bytes(verb, b"QUIT") {
         Ok(Verb::Quit)
-    } else if verb == b"SHUTDOWN".as_slice() {
+    } else if same_bytes(verb, b"SHUTDOWN") {
         Ok(Verb::Shutdown)
     } else {
         Err(WireFault::UnknownWord)
