@@ -1,4 +1,4 @@
-"""Prints what a daemon serves beside a bare echo server, what it takes at rest, and how soon it answers."""
+"""Prints what a daemon serves beside a bare echo server and a small daemon in plain Rust, what it takes at rest, and how soon it answers."""
 
 import os
 import subprocess
@@ -14,6 +14,9 @@ CLIENTS = (1, 16, 256)
 RUNS = 5
 TURNS = 3
 MILLISECONDS = 1000
+DISTURBED = 0.03
+TRIES = 8
+ECHO = "the echo"
 PERMANENT = "FEATURE f{} acme 1.0 permanent 300 SIGN=00AB\n"
 SITES = {
     "one pool": (1, ""),
@@ -22,6 +25,7 @@ SITES = {
     "1,000 INCLUDE lines, those of the clients last": (1, "".join(f"INCLUDE f0 USER u{n}\n" for n in reversed(range(1000)))),
     "64 pools, 1,000 EXCLUDE lines over them": (64, "".join(f"EXCLUDE f{n % 64} USER nobody{n}\n" for n in range(1000))),
 }
+PLAIN = {"one pool": "plain Rust, one pool", "64 pools": "plain Rust, 64 pools"}
 TICKS = os.sysconf("SC_CLK_TCK")
 
 
@@ -36,12 +40,32 @@ def ask(peers, path, clients, pools, milliseconds):
     return [float(word) for word in told.stdout.split()]
 
 
+def processors():
+    """The time of all processors so far, and the part of it that others on the machine took."""
+    with open("/proc/stat") as file:
+        times = [int(word) for word in file.readline().split()[1:9]]
+    return sum(times), times[7]
+
+
+def turn(*words):
+    """What others took of the processors in a turn, and what `ask` told of it: of the first turn in which they took little, or of the least disturbed."""
+    turns = []
+    for _ in range(TRIES):
+        whole, others = processors()
+        figures = ask(*words)
+        whole_then, others_then = processors()
+        turns.append(((others_then - others) / (whole_then - whole), figures))
+        if turns[-1][0] <= DISTURBED:
+            break
+    return min(turns)
+
+
 @contextmanager
-def echo(peers):
-    """The echo server's socket."""
+def peer(peers, name, *words):
+    """The socket of a server in plain Rust."""
     with tempfile.TemporaryDirectory() as folder:
         path = f"{folder}/socket"
-        server = subprocess.Popen([f"{peers}/echo", path])
+        server = subprocess.Popen([f"{peers}/{name}", path, *words])
         try:
             while not os.path.exists(path):
                 time.sleep(0.001)
@@ -64,16 +88,21 @@ def daemon(program, clients, pools, options):
 
 
 def run(program, peers, clients):
-    """Of the echo and the daemon on each site, all up at once and asked in turns, the mean of what their turns found."""
+    """Of the peers and the daemon on each site, all up at once and asked in turns, the mean of what their turns found, and the most that others took in one."""
     with ExitStack() as up:
-        servers = [("the echo", up.enter_context(echo(peers)), 1)]
+        servers = [(ECHO, up.enter_context(peer(peers, "echo")), 1)]
         for site, (pools, options) in SITES.items():
             servers.append((site, up.enter_context(daemon(program, clients, pools, options)), pools))
+            if site in PLAIN:
+                servers.append((PLAIN[site], up.enter_context(peer(peers, "plain", str(pools))), pools))
         turns = {name: [] for name, _, _ in servers}
-        for turn in range(TURNS):
-            for name, path, pools in servers[turn:] + servers[:turn]:
-                turns[name].append(ask(peers, path, clients, pools, MILLISECONDS))
-    return {name: [mean(figure) for figure in zip(*found)] for name, found in turns.items()}
+        most_taken = 0
+        for n in range(TURNS):
+            for name, path, pools in servers[n:] + servers[:n]:
+                taken, figures = turn(peers, path, clients, pools, MILLISECONDS)
+                turns[name].append(figures)
+                most_taken = max(most_taken, taken)
+    return {name: [mean(figure) for figure in zip(*found)] for name, found in turns.items()}, most_taken
 
 
 def best(runs):
@@ -81,21 +110,30 @@ def best(runs):
     return [max(run[0] for run in runs), *(min(run[n] for run in runs) for n in (1, 2, 3))]
 
 
-def line_of(runs, echoes):
-    """Requests a second, the best and the mean, each with what it is of the echo's; the percentiles, and what the 99th is of the echo's."""
-    figures, theirs = best(runs), best(echoes)
-    rate, usual, tails = figures[0], mean([run[0] for run in runs]), " ".join(f"{it:.1f}" for it in figures[1:])
-    of_usual = usual / mean([run[0] for run in echoes])
-    return f"{rate:.0f} {rate / theirs[0]:.2f}, {usual:.0f} {of_usual:.2f}; {tails}; {figures[2] / theirs[2]:.2f}"
+def parts(runs, others):
+    """Of another's requests a second, the best of the best and the mean of the mean."""
+    means = [mean([run[0] for run in each]) for each in (runs, others)]
+    return f"{best(runs)[0] / best(others)[0]:.2f} {means[0] / means[1]:.2f}"
+
+
+def line_of(name, found):
+    """Requests a second, the best and the mean, and what these are of the echo's and of plain Rust's; the percentiles, and what the 99th is of the echo's."""
+    runs, echoes = found[name], found[ECHO]
+    rate, p50, p99, p999 = best(runs)
+    plain = f"; of plain Rust's {parts(runs, found[PLAIN[name]])}" if name in PLAIN else ""
+    usual = mean([run[0] for run in runs])
+    return f"{rate:.0f} {usual:.0f}, of the echo's {parts(runs, echoes)}{plain}; {p50:.1f} {p99:.1f} {p999:.1f}, {p99 / best(echoes)[2]:.2f}"
 
 
 def compare(program, peers):
-    """The echo and the daemon on each site."""
-    print("clients: requests a second, the best and the mean, and of the echo's; p50, p99, p999 in us; p99 of the echo's")
+    """The peers and the daemon on each site."""
+    print("clients: requests a second, the best and the mean, and what they are of others'; p50, p99, p999 in us, and p99 of the echo's")
     for clients in CLIENTS:
-        runs = [run(program, peers, clients) for _ in range(RUNS)]
-        for name in runs[0]:
-            print(f"{clients}, {name}: {line_of([it[name] for it in runs], [it['the echo'] for it in runs])}", flush=True)
+        runs, taken = zip(*(run(program, peers, clients) for _ in range(RUNS)))
+        found = {name: [it[name] for it in runs] for name in runs[0]}
+        for name in found:
+            print(f"{clients}, {name}: {line_of(name, found)}", flush=True)
+        print(f"{clients}: others took {max(taken) * 100:.1f} % of the processors in a turn, at most", flush=True)
 
 
 def status_of(process, field):

@@ -1,12 +1,13 @@
 #!/bin/sh
-# What the daemon serves, 1, 16 and 256 clients that ask CHECKOUT and CHECKIN in turn, beside a bare echo server in
-# plain Rust with a thread for each connection (bench/peers/echo.rs and ask.rs, which rustc builds here without a
-# network), at one pool, at 64, and under 1,000 lines of options; and what the daemon takes at rest.
+# What the daemon serves, 1, 16 and 256 clients that ask CHECKOUT and CHECKIN in turn, beside a bare echo server and a
+# small licence daemon in plain Rust with a thread for each connection (bench/peers/echo.rs, plain.rs and ask.rs, which
+# rustc builds here without a network), at one pool, at 64, and under 1,000 lines of options; and what the daemon takes
+# at rest. A turn in which others took more than 3 % of the processors is asked again.
 # Build the program first: (cd crates/licence_main && rt run -- check data/licence data/options)
 cd "$(dirname "$0")/.." || exit 1
 peers=$(mktemp -d) || exit 1
 trap 'rm -rf "$peers"' EXIT
-for peer in echo ask; do
+for peer in echo plain ask; do
     rustc -O "bench/peers/$peer.rs" -o "$peers/$peer" || exit 1
 done
 python3 -B bench/serve.py "$peers" "$@"
