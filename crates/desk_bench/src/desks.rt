@@ -1,5 +1,5 @@
 //! Pairs of a checkout and a check-in on a desk.
-ghost use Rattle.std.specs.Prelude.{◌≡◌, ◌<◌, ◌≤◌, All, IfOk, IsTrue, length, min, vec_len};
+ghost use Rattle.std.specs.Prelude.{◌≡◌, ◌<◌, ◌≤◌, All, IfOk, length, min, vec_len};
 ghost use Rattle.options_machine.specs.Rules.{IsSound};
 ghost use Rattle.options_machine.specs.Run.{IsBelow};
 ghost use Rattle.options_machine.specs.Step.{set_asked};
@@ -21,7 +21,9 @@ use std::sync::Wait;
 use std::thread::{Threads, for_each_mut};
 
 /// The pool of so many licences.
-fn pool(count: u32) -> Result<Pool> {
+fn pool(count: u32) -> Result<Pool>
+    ensures { IfOk result (λ pool. pool.count ≡ count) }
+{
     let name = Name::read(b"1.0")?;
     Ok(Pool {
         name,
@@ -46,31 +48,28 @@ fn client() -> Result<Client> {
 }
 
 /// The rules of so many licences without options.
-fn rules_of(alloc: Global, count: u32) -> Result<DeskRules> {
+fn rules_of(alloc: Global, count: u32) -> Result<DeskRules>
+    ensures sound { IfOk result IsSound }
+    ensures count { IfOk result (λ rules. rules.count ≡ count) }
+{
     let pool = pool(count)?;
     let options = read_options(alloc, b"")?;
     Ok(DeskRules::of(alloc, &options, &pool)?)
 }
 
-/// Whether a net is as wide as the desk of these rules needs it.
-fn fits(rules: &DeskRules, net: &Net) -> bool
-    ensures sound { IsSound rules.now }
-    ensures width { IsTrue result → net.now.width ≡ min rules.now.count net.now.parties }
-{
-    net.width() == rules.count().min(net.parties())
-}
-
-/// The rules of so many licences, and a net for so many parties that fits them.
+/// The rules of so many licences, and a net for so many parties that is as wide as their desk needs it.
 fn parts_of(alloc: Global, count: u32, parties: u32) -> Result<(DeskRules, Net)>
     requires count { 1 ≤ count }
     requires parties { (2 ≤ parties) × (parties ≤ 256) }
     ensures sound { IfOk result (λ parts. IsSound parts.0) }
     ensures width { IfOk result (λ parts. parts.1.width ≡ min parts.0.count parts.1.parties) }
 {
-    let rules = rules_of(alloc, count)?;
     let net = tree(alloc, parties, count)?;
-    ensure!(fits(&rules, &net), "a net of another width");
-    Ok((rules, net))
+    ensure!(
+        net.width() == count.min(net.parties()),
+        "a net of another width"
+    );
+    Ok((rules_of(alloc, count)?, net))
 }
 
 /// Checks out and in, so often, and quits.

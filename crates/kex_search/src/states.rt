@@ -72,6 +72,11 @@ impl Chain {
         Ok(world)
     }
 
+    /// The look of the world after these moves.
+    fn look_after(self, alloc: Global, moves: &[u32]) -> Result<String> {
+        self.look(alloc, &self.after(alloc, moves)?)
+    }
+
     /// All that there is in a world, as a text.
     fn look(self, alloc: Global, world: &World) -> Result<String>
         requires { IsOf self.parties self.licences world.now }
@@ -102,7 +107,7 @@ impl Search {
     pub(crate) fn of(alloc: Global, chain: Chain) -> Result<Search> {
         let mut seen = BTreeSet::new(alloc);
         let mut waiting = VecDeque::new(alloc);
-        seen.insert(chain.look(alloc, &chain.opening(alloc)?)?)?;
+        seen.insert(chain.look_after(alloc, &[])?)?;
         waiting.push_back(Vec::new(alloc))?;
         let found = Found::default();
         Ok(Search {
@@ -115,12 +120,10 @@ impl Search {
 
     /// Makes one party's move after these, and keeps the state to which it leads, if that is new.
     fn step(&mut self, alloc: Global, moves: &[u32], party: u32) -> Result<()> {
+        let before = self.chain.look_after(alloc, moves)?;
         let mut path = moves.to_vec(alloc)?;
         path.push(party)?;
-        let before = self.chain.look(alloc, &self.chain.after(alloc, moves)?)?;
-        let after = self
-            .chain
-            .look(alloc, &self.chain.after(alloc, path.as_slice())?)?;
+        let after = self.chain.look_after(alloc, path.as_slice())?;
         self.found.moves = self.found.moves.wrapping_add(1);
         if before == after {
             self.found.still = self.found.still.wrapping_add(1);
