@@ -2,7 +2,7 @@
 # What the daemon serves, 1, 16 and 256 clients that ask CHECKOUT and CHECKIN in turn, beside a bare echo server and a
 # small licence daemon in plain Rust with a thread for each connection (bench/peers/echo.rs, plain.rs and ask.rs, which
 # rustc builds here without a network), at one pool, at 64, and under 1,000 lines of options; and what the daemon takes
-# at rest. A turn in which others took more than 3 % of the processors is asked again.
+# at rest. A turn in which others took more than 3 % of the processors is asked again, up to seven times.
 # Build the program first: (cd crates/licence_main && rt run -- check data/licence data/options)
 cd "$(dirname "$0")/.." || exit 1
 peers=$(mktemp -d) || exit 1
