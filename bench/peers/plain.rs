@@ -1,5 +1,5 @@
 //! A small licence daemon in plain Rust, for what a daemon of this shape can do beside a bare echo: `plain PATH POOLS`. A thread for each connection, whose reads wait a second, and for each of POOLS features of 300 licences a mutex round a hash map of its holders, its free seats and the first 4,096 entries.
-//! It answers HELLO, CHECKOUT and CHECKIN as the daemon does where no line of options speaks; it has no options, groups, expiry, timeouts, lingering seats, queue, numbers for others or any other request. Prints nothing, and runs until it is killed.
+//! It answers HELLO, and CHECKOUT and CHECKIN of a feature that is there, in the daemon's words where no line of options speaks, and WRONG to all else; it has no options, groups, expiry, timeouts, lingering seats, queue or numbers for others. Prints nothing, and runs until it is killed.
 #![allow(dead_code)] // What a holder and an entry keep, a whole daemon would print.
 use std::collections::HashMap;
 use std::env::args;
