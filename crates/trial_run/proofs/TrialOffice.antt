@@ -16,24 +16,26 @@ use Rattle.trial_run.specs.declared.player.Player.{Player}
 use Rattle.trial_run.specs.declared.player.Trial.{Trial}
 use Rattle.trial_terms.specs.Terms.{no_options, trial_pool}
 
-module _ (office : View DeskView) (pools : List Pool) (file : OptionsFile) (n seats : ℕ) (terms : pools ≡ trial_pool seats ∷ []) (empty : file ≡ no_options) (pools_are : office.pools ≡ pools) (sets_are : office.sets ≡ 1)
-    (desks_are : (j : ℕ) (p : Pool) (d : DeskView) → j < length pools → IsDeskFor (file ∷ []) n (get_or pools j p) (get_or office.desks j d)) where
+-- the desk of the one pool of a trial's licence
+pub trial_desk : (pools : List Pool) (file : OptionsFile) (n seats : ℕ) (desks : List DeskView) → pools ≡ trial_pool seats ∷ [] → file ≡ no_options
+    → ((j : ℕ) (p : Pool) (d : DeskView) → j < length pools → IsDeskFor (file ∷ []) n (get_or pools j p) (get_or desks j d)) → (d : DeskView) → IsDeskFor (no_options ∷ []) n (trial_pool seats) (get_or desks 0 d)
+trial_desk pools file n seats desks terms empty desks_are d =
+    let pool = trial_pool seats in
+    let is = desks_are 0 pool d (subst (λ (ps : List Pool). 0 < length ps) (sym terms) (omega arith)) in
+    subst (λ (f : OptionsFile). IsDeskFor (f ∷ []) n pool (get_or desks 0 d)) empty
+    (subst (λ (ps : List Pool). IsDeskFor (file ∷ []) n (get_or ps 0 pool) (get_or desks 0 d)) terms is)
+
+module _ (office : View DeskView) (n seats : ℕ) (pools_are : office.pools ≡ trial_pool seats ∷ []) (sets_are : office.sets ≡ 1)
+    (desk_is : (d : DeskView) → IsDeskFor (no_options ∷ []) n (trial_pool seats) (get_or office.desks 0 d)) where
   pub one_pool : length office.pools ≡ 1
-  one_pool = ap length (pools_are ∙ terms)
+  one_pool = ap length pools_are
 
   -- its desk has one rule set
   pub has_sets : HasSets office
   has_sets = λ j d l.
-      let m : j < length pools = subst (λ (ps : List Pool). j < length ps) pools_are l in
-      ap length (desks_are j (trial_pool seats) d m).rules ∙ sym sets_are
-
-  -- its desk is the trial's
-  pub desk_is : (d : DeskView) → IsDeskFor (no_options ∷ []) n (trial_pool seats) (get_or office.desks 0 d)
-  desk_is d =
-      let pool = trial_pool seats in
-      let is = desks_are 0 pool d (subst (λ (ps : List Pool). 0 < length ps) (sym terms) (omega arith)) in
-      subst (λ (f : OptionsFile). IsDeskFor (f ∷ []) n pool (get_or office.desks 0 d)) empty
-      (subst (λ (ps : List Pool). IsDeskFor (file ∷ []) n (get_or ps 0 pool) (get_or office.desks 0 d)) terms is)
+      let m : j < 1 = subst (λ (ps : List Pool). j < length ps) pools_are l in
+      let first : 0 ≡ j = omega arith in
+      subst (λ (i : ℕ). length (get_or office.desks i d).lock.law.sets ≡ office.sets) first (ap length (desk_is d).rules ∙ sym sets_are)
 
   one_party : (p : ℕ) (desks : List DeskView) → length desks ≡ 1 → map (λ (s : Sitter). (account_of s).party) (map (λ (desk : DeskView). newcomer desk p) desks) ≡ p ∷ []
   one_party p [] l = absurd (omega arith)
@@ -44,7 +46,7 @@ module _ (office : View DeskView) (pools : List Pool) (file : OptionsFile) (n se
   pub same_setup : length office.desks ≡ 1 → (p : ℕ) → setup_of account_of office (map (λ (desk : DeskView). newcomer desk p) office.desks) ≡ trial_setup seats p
   same_setup one p =
       let numbers = one_party p office.desks one in
-      ap (λ (ps : List Pool). record { pools = ps; sets = office.sets; parties = map (λ (s : Sitter). (account_of s).party) (map (λ (desk : DeskView). newcomer desk p) office.desks) }) (pools_are ∙ terms)
+      ap (λ (ps : List Pool). record { pools = ps; sets = office.sets; parties = map (λ (s : Sitter). (account_of s).party) (map (λ (desk : DeskView). newcomer desk p) office.desks) }) pools_are
       ∙ (ap (λ (k : ℕ). record { pools = trial_pool seats ∷ []; sets = k; parties = map (λ (s : Sitter). (account_of s).party) (map (λ (desk : DeskView). newcomer desk p) office.desks) }) sets_are
       ∙ ap (λ (l : List ℕ). record { pools = trial_pool seats ∷ []; sets = 1; parties = l }) numbers)
 

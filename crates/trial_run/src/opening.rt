@@ -1,9 +1,10 @@
 //! A whole trial.
-ghost use Rattle.std.specs.Prelude.{◌≡◌, ◌<◌, ◌≤◌, ◌∷◌, ℕ, [], All, Err, IfOk, length, vec_capacity, vec_len};
+ghost use Rattle.std.specs.Prelude.{◌≡◌, ◌<◌, ◌≤◌, ◌∷◌, ℕ, [], All, Err, IfOk, get_or, length, vec_capacity, vec_len};
 ghost use Rattle.lic_types.specs.declared.limits.TheConstants.{LICENCE_LIMIT, PARTY_LIMIT};
 ghost use Rattle.daemon_run.specs.Gives.{kept_from, no_sessions};
 ghost use Rattle.feature_desk.specs.Sitters.{DeskView};
-ghost use Rattle.licence_office.specs.Offices.{IsDeskFor};
+ghost use Rattle.licence_office.specs.Logs.{AreLogsOf};
+ghost use Rattle.licence_office.specs.Offices.{AreDealt, IsDeskFor};
 ghost use Rattle.session_outside.specs.Talk.{Follows, HasRisen};
 ghost use Rattle.trial_terms.specs.Terms.{no_options, trial_pool};
 ghost use Rattle.trial_run.specs.Fresh.{IsFresh};
@@ -14,7 +15,8 @@ use crate::failure::TrialFailed;
 use crate::holding::hold;
 use crate::player::{Player, Trial};
 use daemon_outside::Site;
-use licence_office::{Office, OfficePass};
+use licence_office::{Office, OfficeLogs, OfficePass};
+use no_memory::NoMemory;
 use std::alloc::{AllocError, Global};
 use std::sync::Wait;
 use std::thread::Threads;
@@ -56,6 +58,27 @@ fn seat(passes: &mut Vec<OfficePass>, mut links: Vec<TrialLink>, players: &mut V
     players.reverse();
 }
 
+/// The office of a trial: one pool of so many seats, under an empty options file. With it come the counters of so many
+/// clients, in order, and the logs.
+fn trial_office<R: Wait>(
+    rt: &R,
+    alloc: Global,
+    clients: u32,
+    seats: u32,
+) -> Result<(Office, Vec<OfficePass>, OfficeLogs), NoMemory>
+    requires clients { (2 ≤ clients) × (clients ≤ PARTY_LIMIT) }
+    requires seats { (1 ≤ seats) × (seats ≤ LICENCE_LIMIT) }
+    ensures view { IfOk result (λ made. (made.0.view.pools ≡ trial_pool seats ∷ []) × (made.0.view.sets ≡ 1) × (made.0.parties ≡ clients)) }
+    ensures desk { IfOk result (λ made. (d : DeskView) → IsDeskFor (no_options ∷ []) clients (trial_pool seats) (get_or made.0.view.desks 0 d)) }
+    ensures counters { IfOk result (λ made. (vec_len made.1 ≡ clients) × AreDealt made.0.view.desks made.1.items) }
+    ensures logs { IfOk result (λ made. AreLogsOf made.2 made.0) }
+{
+    let licence = trial_licence(alloc, seats)?;
+    let options = trial_options(alloc)?;
+    let (office, passes, logs) = Office::make(rt, alloc, &licence, &options, clients)?;
+    Ok((office, passes, logs))
+}
+
 /// Holds a trial: so many clients, 2 to 256, each of which takes one of so many seats, 1 to 65,535, and gives it back,
 /// for so many rounds, 1 to 10,000. Each client has one session over a link in memory, all of them at once, each in a
 /// thread of its own where one can be made, at a post of the site of its own, of which the clock, the gate and the bell
@@ -84,12 +107,10 @@ pub fn try_out<R: Threads + Wait + Sync, T: Site>(
         (λ sessions. Follows T.keeps site.old site.new (kept_of (T.made site.old) sessions)) trial) }
 {
     let room = clients as usize;
-    let licence = trial_licence(alloc, seats)?;
-    let options = trial_options(alloc)?;
     let links = links(alloc, clients, rounds)?;
     let mut players = Vec::with_capacity(alloc, room)?;
     let workers = Vec::with_capacity(alloc, room)?;
-    let (office, mut passes, logs) = Office::make(rt, alloc, &licence, &options, clients)?;
+    let (office, mut passes, logs) = trial_office(rt, alloc, clients, seats)?;
     seat(&mut passes, links, &mut players);
     Ok(hold(rt, office, players, workers, passes, logs, site)?)
 }

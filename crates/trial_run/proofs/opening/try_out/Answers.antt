@@ -5,40 +5,36 @@ use Rattle.licence_office.specs.Offices.{AreDealt}
 use Rattle.session.specs.Session.{setup_of}
 use Rattle.session_outside.specs.Talk.{Follows}
 use Rattle.trial_run.specs.Tried.{kept_of, trial_setup}
-use Rattle.trial_run.proofs.TrialOffice.{desk_is, has_sets, one_pool, same_setup, tried_as}
+use Rattle.trial_run.proofs.TrialOffice.{has_sets, one_pool, same_setup, tried_as}
 use Rattle.trial_run.proofs.opening.try_out.Goals as goal
 
 pub hold-requires-clause-one : goal.hold-requires-clause-one
 hold-requires-clause-one g c κs within =
     let e = c.in_ok-office.ensures in
-    one_pool c.in_ok-office.office.view c.in_ok-licence.licence.pools c.in_ok-options.options c.args.clients c.args.seats c.in_ok-licence.ensures c.in_ok-options.ensures e.view.0 e.view.1 e.desks
+    one_pool c.in_ok-office.office.view c.args.clients c.args.seats e.view.0 e.view.1 e.desk
 
 pub hold-requires-clause-sets : goal.hold-requires-clause-sets
 hold-requires-clause-sets g c κs within =
     let e = c.in_ok-office.ensures in
-    has_sets c.in_ok-office.office.view c.in_ok-licence.licence.pools c.in_ok-options.options c.args.clients c.args.seats c.in_ok-licence.ensures c.in_ok-options.ensures e.view.0 e.view.1 e.desks
+    has_sets c.in_ok-office.office.view c.args.clients c.args.seats e.view.0 e.view.1 e.desk
 
 pub hold-requires-clause-dealt : goal.hold-requires-clause-dealt
 hold-requires-clause-dealt g c κs within =
-    subst (λ (ps : List (Vec Sitter Global)). AreDealt c.in_ok-office.office.view.desks ps) (sym c.seat.ensures.counters) c.in_ok-office.ensures.passes.1
+    subst (λ (ps : List (Vec Sitter Global)). AreDealt c.in_ok-office.office.view.desks ps) (sym c.seat.ensures.counters) c.in_ok-office.ensures.counters.1
 
 pub returns-clause-tried : goal.returns-clause-tried
 returns-clause-tried g c =
     let e = c.in_ok-office.ensures in
     let o = c.in_ok-office.office.view in
-    let pools = c.in_ok-licence.licence.pools in
-    let file = c.in_ok-options.options in
     let clients = c.args.clients in
     let seats = c.args.seats in
-    let is = c.in_ok-licence.ensures in
-    let empty = c.in_ok-options.ensures in
     let players = c.seat.new.players in
-    let one : length o.desks ≡ 1 = c.in_ok-hold.ensures.paired ∙ one_pool o pools file clients seats is empty e.view.0 e.view.1 e.desks in
+    let one : length o.desks ≡ 1 = c.in_ok-hold.ensures.paired ∙ one_pool o clients seats e.view.0 e.view.1 e.desk in
     let d : DeskView = the_first o.desks (omega arith) in
-    let all : length players.items ≡ clients = sym players.ok.0 ∙ c.seat.ensures.count ∙ e.passes.0 in (
+    let all : length players.items ≡ clients = sym players.ok.0 ∙ c.seat.ensures.count ∙ e.counters.0 in (
       get_or o.desks 0 d,
-      desk_is o pools file clients seats is empty e.view.0 e.view.1 e.desks d,
+      e.desk d,
       tried_as (get_or o.desks 0 d) (λ p. setup_of account_of o (map (λ (desk : DeskView). newcomer desk p) o.desks)) (trial_setup seats) (length players.items) clients
           (λ sessions. Follows g.T.Site.keeps c.args.site.now c.hold.new.site (kept_of (g.T.Site.made c.args.site.now) sessions)) c.in_ok-hold.field-0 all
-          (same_setup o pools file clients seats is empty e.view.0 e.view.1 e.desks one) (c.in_ok-hold.ensures.held d),
+          (same_setup o clients seats e.view.0 e.view.1 e.desk one) (c.in_ok-hold.ensures.held d),
     )
