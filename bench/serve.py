@@ -25,7 +25,7 @@ SITES = {
     "1,000 INCLUDE lines, those of the clients last": (1, "".join(f"INCLUDE f0 USER u{n}\n" for n in reversed(range(1000)))),
     "64 pools, 1,000 EXCLUDE lines over them": (64, "".join(f"EXCLUDE f{n % 64} USER nobody{n}\n" for n in range(1000))),
 }
-PLAIN = {"one pool": "plain Rust, one pool", "64 pools": "plain Rust, 64 pools"}
+PLAIN = {site: f"plain Rust, {site}" for site in SITES}
 TICKS = os.sysconf("SC_CLK_TCK")
 
 
@@ -61,11 +61,15 @@ def turn(*words):
 
 
 @contextmanager
-def peer(peers, name, *words):
-    """The socket of a server in plain Rust."""
+def peer(peers, name, *words, options=None):
+    """The socket of a server in plain Rust, which may have an options file."""
     with tempfile.TemporaryDirectory() as folder:
-        path = f"{folder}/socket"
-        server = subprocess.Popen([f"{peers}/{name}", path, *words])
+        path, named = f"{folder}/socket", []
+        if options is not None:
+            named = [f"{folder}/options"]
+            with open(named[0], "w") as file:
+                file.write(options)
+        server = subprocess.Popen([f"{peers}/{name}", path, *words, *named])
         try:
             while not os.path.exists(path):
                 time.sleep(0.001)
@@ -93,8 +97,7 @@ def run(program, peers, clients):
         servers = [(ECHO, up.enter_context(peer(peers, "echo")), 1)]
         for site, (pools, options) in SITES.items():
             servers.append((site, up.enter_context(daemon(program, clients, pools, options)), pools))
-            if site in PLAIN:
-                servers.append((PLAIN[site], up.enter_context(peer(peers, "plain", str(pools))), pools))
+            servers.append((PLAIN[site], up.enter_context(peer(peers, "plain", str(pools), options=options)), pools))
         turns = {name: [] for name, _, _ in servers}
         most_taken = 0
         for n in range(TURNS):
