@@ -157,7 +157,11 @@ def at_rest(program):
         begun = time.monotonic()
         with Daemon(program, *texts, sessions=sessions) as served:
             served.is_up()
+            with served.session() as asked:
+                reply = asked.ask("QUIT")
             first = time.monotonic() - begun
+            if reply != "BYE":
+                sys.exit(f"bench: QUIT was answered {reply}")
             links = [served.session("u h d p") for _ in range(sessions)]
             resident = int(status_of(served.process, "VmRSS"))
             before = ticks(served.process)

@@ -31,7 +31,7 @@ class Daemon:
         return subprocess.Popen([self.program, *words], cwd=self.folder, stdin=subprocess.DEVNULL, stdout=subprocess.PIPE, stderr=subprocess.PIPE)
 
     def is_up(self):
-        """Waits until the socket answers, or the program has ended."""
+        """Whether the socket takes a connection, which it waits for while the program runs. That a request is answered it doesn't tell."""
         end = time.monotonic() + PATIENCE
         while time.monotonic() < end and self.process.poll() is None:
             try:
