@@ -23,11 +23,11 @@ GLANCE = re.compile(r"GLANCE FRONT (\d+) HELD (\d+) LINGERING (\d+) OPEN (\d+) O
 
 METRICS = {
     "licence_held": ("gauge", "Sessions that have a licence."),
-    "licence_lingering": ("gauge", "Licences that were given back and linger, as of the last request."),
+    "licence_lingering": ("gauge", "Licences that were given back and linger, as of the last entry."),
     "licence_taken": ("gauge", "Licences in use, lingering ones too, that no RESERVE line keeps."),
     "licence_free": ("gauge", "Licences that no RESERVE line keeps and nobody has."),
     "licence_queued": ("gauge", "Sessions that wait for a licence."),
-    "licence_entries": ("counter", "Requests that the pool answered since the daemon began."),
+    "licence_entries": ("counter", "Entries of the pool since the daemon began: requests, and the daemon's looks at seats held in silence."),
 }
 
 
