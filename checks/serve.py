@@ -1,16 +1,22 @@
 """Runs the built program as a daemon, and looks at what sessions are told, at what is left where a client goes, and at how it ends."""
 
+import contextlib
 import os
 import re
 import socket
+import subprocess
 import sys
 import threading
 import time
 
-from daemon import Daemon, Session
+from daemon import PATIENCE, Daemon, Session
 
 EDIT = "FEATURE edit acme 2.0 permanent {} SIGN=00AB\n"
+DRAW = "FEATURE draw acme 1.0 permanent {} SIGN=01CD\n"
 ANN, BOB, CY = "ann h1 d1 p1", "bob h2 d2 p2", "cy h3 d3 p3"
+
+# Within how many seconds a daemon ends whatever its clients do, on a machine with other work too.
+SOON = 10
 
 faults = []
 
@@ -33,14 +39,40 @@ def counts(session, feature="edit"):
     return session.ask(f"STATUS {feature}").rpartition(" #")[0]
 
 
-def ends_well(what, daemon):
-    """Shuts the daemon down: status 0, nothing on standard error, no socket left, and a log that is a run. Gives its output."""
-    status, out, err = daemon.stopped()
+def ends_well(what, daemon, seconds=PATIENCE):
+    """Shuts the daemon down: in time status 0, nothing on standard error, no socket left, and a log that is a run. Gives its output."""
+    status, out, err = daemon.stopped(seconds)
     same(f"{what}: end", (status, err), (0, ""))
     same(f"{what}: the socket file is left", os.path.exists(daemon.path), False)
     audit = daemon.audited(out)
     same(f"{what}: audit", (audit[0], audit[1].split(" ")[0]), (0, "YES"))
     return out
+
+
+def seats_lost(log, pool):
+    """How many seats a pool's whole log has granted and not had back."""
+    replies = re.findall(rf"^ENTRY {pool} .* (GRANTED|RETURNED)\b", log, re.MULTILINE)
+    return replies.count("GRANTED") - replies.count("RETURNED")
+
+
+@contextlib.contextmanager
+def going_on(*acts):
+    """Does each of these again and again in a thread of its own, whatever becomes of its link, as long as the block runs."""
+    over = threading.Event()
+
+    def go_on(act):
+        while not over.is_set():
+            try:
+                act()
+            except OSError:
+                over.wait(0.01)
+
+    for act in acts:
+        threading.Thread(target=go_on, args=(act,), daemon=True).start()
+    try:
+        yield
+    finally:
+        over.set()
 
 
 def a_whole_session(program):
@@ -61,7 +93,7 @@ def a_whole_session(program):
 
 
 def the_log_and_the_tallies(program):
-    with Daemon(program, EDIT.format(2) + "FEATURE draw acme 1.0 permanent 1 SIGN=01CD\n", sessions=2) as daemon:
+    with Daemon(program, EDIT.format(2) + DRAW.format(1), sessions=2) as daemon:
         daemon.is_up()
         with daemon.session(ANN) as session:
             same("a log: granted", session.ask("CHECKOUT edit 1.0"), "GRANTED SEAT 0 OPEN #0")
@@ -208,31 +240,83 @@ def others_are_not_held_up(program):
             pouring.join(5)
 
 
-def many_are_killed(program):
-    """Sessions that check out and go in mid-line, many at once: no seat is lost."""
-    with Daemon(program, EDIT.format(40), sessions=66) as daemon:
+def no_seat_is_lost_where_255_are_killed(program):
+    """Sessions that check out and in, and then, most of them with a seat, go in mid-line, half of them with replies that they never read."""
+    with Daemon(program, EDIT.format(200), sessions=256) as daemon:
         daemon.is_up()
         for _ in range(3):
-            clients = [daemon.session(f"u{n} h d p") for n in range(64)]
+            clients = [daemon.session(f"u{n} h d p") for n in range(255)]
             for client in clients:
-                client.send("CHECKOUT edit 1.0\nBEAT edit\nCHECK")
-            for client in clients:
-                client.line()
+                client.send("CHECKOUT edit 1.0\nCHECKIN edit\nCHECKOUT edit 1.0\nCHECK")
+            for number, client in enumerate(clients):
+                if number % 2:
+                    replies = [client.line().split(" ")[0] for _ in range(3)]
+                    same("who is killed was served", replies[1], {"GRANTED": "RETURNED", "NOSEAT": "NOTHELD"}.get(replies[0]))
                 client.close()
         with daemon.session(ANN) as last:
-            eventually("after many were killed", lambda: counts(last), "COUNTS HELD 0 LINGERING 0 OPEN 0 OF 40 OWN 0")
-        ends_well("many are killed", daemon)
+            eventually("after 255 were killed", lambda: counts(last), "COUNTS HELD 0 LINGERING 0 OPEN 0 OF 200 OWN 0")
+        same("255 are killed: seats lost", seats_lost(ends_well("255 are killed", daemon, SOON), 0), 0)
+
+
+def a_byte_now_and_then_holds_up_no_end(program):
+    """A client sends a byte each half second, and goes on so through SHUTDOWN."""
+    with Daemon(program, EDIT.format(1)) as daemon:
+        daemon.is_up()
+        with daemon.session(ANN) as slow:
+            slow.ask("CHECKOUT edit 1.0")
+            with going_on(lambda: (slow.send("x"), time.sleep(0.5))):
+                out = ends_well("a byte now and then", daemon, SOON)
+    same("a byte now and then: seats lost", seats_lost(out, 0), 0)
+
+
+def a_slow_reader_holds_up_no_end(program):
+    """A client sends many lines at once, and reads the replies as slowly as writes of the daemon wait for, also through SHUTDOWN."""
+    with Daemon(program, EDIT.format(1)) as daemon:
+        daemon.is_up()
+        with daemon.session(ANN) as slow:
+            slow.ask("CHECKOUT edit 1.0")
+            slow.send("\n" * 1024)
+            with going_on(lambda: (time.sleep(5), slow.link.recv(65536))):
+                time.sleep(0.2)
+                out = ends_well("a slow reader", daemon, SOON)
+    same("a slow reader: seats lost", seats_lost(out, 0), 0)
+
+
+def requests_without_pause_hold_up_no_end(program):
+    """Clients ask and read without pause, one says BEAT each second, and one comes back whenever its link is closed, all of them through SHUTDOWN."""
+    with Daemon(program, EDIT.format(2) + DRAW.format(6), sessions=8) as daemon:
+        daemon.is_up()
+
+        def come_back():
+            with daemon.session(CY) as again:
+                again.ask("CHECKOUT draw 1.0")
+                again.line()
+
+        with contextlib.ExitStack() as links:
+            busy = [links.enter_context(daemon.session(f"u{n} h d p")) for n in range(4)]
+            beating = links.enter_context(daemon.session(BOB))
+            for session in [*busy, beating]:
+                session.ask("CHECKOUT draw 1.0")
+            asks = [lambda it=session: (it.ask("CHECKOUT edit 1.0"), it.ask("CHECKIN edit")) for session in busy]
+            with going_on(*asks, lambda: (beating.ask("BEAT draw"), time.sleep(0.9)), come_back):
+                time.sleep(0.5)
+                out = ends_well("under load", daemon, SOON)
+    same("under load: its log is whole", re.search("^LOG 1 ENTRIES [0-9]+ ([A-Z]+)$", out, re.MULTILINE)[1], "WHOLE")
+    same("under load: seats lost", seats_lost(out, 1), 0)
 
 
 def main():
     program = os.path.abspath(sys.argv[1] if len(sys.argv) > 1 else "crates/licence_main/out/licence_main")
     if not os.access(program, os.X_OK):
         sys.exit(f"serve: {program} isn't built: rt ci builds it")
-    cases = (a_whole_session, the_log_and_the_tallies, seats_and_denials, more_clients_than_sessions, a_queue, rule_sets, wrong_lines, one_path, others_are_not_held_up, many_are_killed)
+    cases = (
+        a_whole_session, the_log_and_the_tallies, seats_and_denials, more_clients_than_sessions, a_queue, rule_sets, wrong_lines, one_path, others_are_not_held_up,
+        no_seat_is_lost_where_255_are_killed, a_byte_now_and_then_holds_up_no_end, a_slow_reader_holds_up_no_end, requests_without_pause_hold_up_no_end,
+    )
     for case in cases:
         try:
             case(program)
-        except (OSError, socket.timeout, AttributeError) as fault:
+        except (OSError, socket.timeout, subprocess.TimeoutExpired, AttributeError) as fault:
             faults.append(f"{case.__name__}: {fault!r}")
     for fault in faults:
         print(f"serve: {fault}")

@@ -5,6 +5,7 @@
 mod busy_poll;
 mod clock;
 mod door;
+mod flag;
 mod link;
 mod listening;
 mod site;

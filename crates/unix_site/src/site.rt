@@ -63,19 +63,34 @@ impl<R: Files + Net + Clock + Clone + Send + Drop> UnixSite<R> {
     }
 }
 
-/// A copy of the listener, where there is one, of the system and of the flag.
-fn parts<R: Clone>(
+/// What a post of a site is made of.
+#[derive(Drop)]
+struct PostParts<R: Drop> {
+    listener: Option<UnixListener>,
+    system: R,
+    door_flag: Arc<AtomicU64, Global>,
+    bell_flag: Arc<AtomicU64, Global>,
+}
+
+/// A copy of the listener, where there is one, of the system and, twice, of the flag.
+fn parts<R: Clone + Drop>(
     system: &R,
     listening: &Option<Listening>,
     flag: &Arc<AtomicU64, Global>,
-) -> Option<(Option<UnixListener>, R, Arc<AtomicU64, Global>)> {
+) -> Option<PostParts<R>> {
     let listener = match listening {
         Some(listening) => Some(listening.listener().ok()?),
         None => None,
     };
-    let flag = Arc::try_clone(flag).ok()?;
+    let door_flag = Arc::try_clone(flag).ok()?;
+    let bell_flag = Arc::try_clone(flag).ok()?;
     match system.clone() {
-        Ok(system) => Some((listener, system, flag)),
+        Ok(system) => Some(PostParts {
+            listener,
+            system,
+            door_flag,
+            bell_flag,
+        }),
         Err(_) => None,
     }
 }
@@ -119,20 +134,16 @@ impl<R: Files + Net + Clock + Clone + Send + Drop> Site for UnixSite<R> {
     fn post(&mut self) -> Result<Post<UnixDoor, SystemClock<R>, SharedBell, NoGate>, SiteFailed> {
         if self.made < u32::MAX
             && self.posted < u64::MAX
-            && let Some((listener, system, flag)) = parts(
-                &self.system,
-                &self.listening,
-                &self.flag,
-            )
+            && let Some(parts) = parts(&self.system, &self.listening, &self.flag)
         {
             let number = self.made;
             self.made += 1;
             self.posted += 1;
             return Ok(Post {
                 number,
-                door: UnixDoor::of(listener),
-                clock: SystemClock::of(system),
-                bell: SharedBell::of(flag),
+                door: UnixDoor::of(parts.listener, parts.door_flag),
+                clock: SystemClock::of(parts.system),
+                bell: SharedBell::of(parts.bell_flag),
                 gate: NoGate,
             });
         }

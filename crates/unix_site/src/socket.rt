@@ -109,6 +109,15 @@ impl Socket {
         }
     }
 
+    /// Writes the whole piece, or fails where not all of it is taken without waiting.
+    pub(crate) fn write_without_waiting(&mut self, piece: &[u8]) -> io::Result<()> {
+        self.set_waits(false)?;
+        if self.write_at_once(piece)? < piece.len() {
+            return Err(ErrorKind::WouldBlock.into());
+        }
+        Ok(())
+    }
+
     /// Writes the whole piece.
     pub(crate) fn write_all(&mut self, piece: &[u8]) -> io::Result<()> {
         let written = if self.waits {

@@ -72,6 +72,32 @@ fn lines_go_over_a_socket_in_turn(rt: HostRuntime) -> Result<(), Fail> {
     Ok(())
 }
 
+/// Though a line lies there and a connection waits. What is written still goes out.
+#[test]
+fn once_the_bell_has_rung_reads_and_accepts_are_quiet(rt: HostRuntime) -> Result<(), Fail> {
+    let path = path(&rt, "rung")?;
+    let mut site = UnixSite::make(rt.clone()?, rt.alloc())?;
+    assert!(rt; site.listen(path.as_str()).is_ok());
+    let mut post = site.post()?;
+    let mut client = UnixStream::connect(&rt, path.as_str())?;
+    let Came::Link(mut link) = post.door.accept() else {
+        return Err(Fail::from("no link"));
+    };
+    client.write_all(b"QUIT\n")?;
+    let waiting = UnixStream::connect(&rt, path.as_str())?;
+    post.bell.ring();
+    let mut room = [0u8; 8];
+    assert!(rt; link.read(&mut room) == Got::Quiet);
+    assert!(rt; matches!(post.door.accept(), Came::Quiet));
+    assert!(rt; link.write(b"BYE\n").is_ok());
+    assert_eq!(rt; client.read(&mut room)?, 4);
+    drop(waiting);
+    post.door.done(link);
+    site.retire(post);
+    site.close();
+    Ok(())
+}
+
 #[test]
 fn a_stale_socket_is_replaced_and_a_served_one_is_left(rt: HostRuntime) -> Result<(), Fail> {
     let path = path(&rt, "stale")?;
@@ -112,8 +138,9 @@ fn bells_ring_together_in_all_threads_and_the_clock_counts_seconds(
     let mut site = UnixSite::make(rt.clone()?, rt.alloc())?;
     let mut posts = Vec::new(rt.alloc());
     for number in 0..2 {
-        let post = site.post()?;
+        let mut post = site.post()?;
         assert_eq!(rt; post.number, number);
+        assert!(rt; matches!(post.door.accept(), Came::Failed));
         posts.push(post)?;
     }
     for_each_mut(
@@ -131,7 +158,7 @@ fn bells_ring_together_in_all_threads_and_the_clock_counts_seconds(
         // 1,767,225,600 is the first moment of 2026, and 4,102,444,800 that of 2100.
         let moment = post.clock.now();
         assert!(rt; 1_767_225_600 < moment && moment < 4_102_444_800);
-        assert!(rt; matches!(post.door.accept(), Came::Failed));
+        assert!(rt; matches!(post.door.accept(), Came::Quiet));
     }
     Ok(())
 }
