@@ -1,14 +1,14 @@
 -- The calls of a party, from its pass to what it became.
-use Rattle.std.proofs.Common.{◌≡◌, ◌↔◌, ℕ, ◌<◌, ◌≤◌, true, false, [], ◌∷◌, Some, refl, ap, sym, ◌∙◌, subst}
+use Rattle.std.proofs.Common.{◌≡◌, ◌↔◌, ℕ, ◌<◌, ◌≤◌, Bool, true, false, [], ◌∷◌, Some, refl, ap, sym, ◌∙◌, subst}
 use Rattle.kex_core.specs.Shapes.{plan}
-use Rattle.kex_words.specs.Passes.{Pass}
+use Rattle.kex_words.specs.Passes.{IsOut, Pass}
 use Rattle.kex_words.specs.Moves.{Moved}
 use Rattle.seat_names.specs.declared.turns.Turn.{Turn}
 use Rattle.seat_names.specs.declared.turns.Turn.TheVariants as seats
 use Rattle.seat_names.specs.Turns as names
 use Rattle.kex_gate.specs.declared.passes.GateTurn.{GateTurn}
 use Rattle.kex_gate.specs.declared.passes.GateTurn.TheVariants as gate
-use Rattle.kex_gate.specs.Passes.{Gate, GateHeld, Guest, Way, guest_with_visit, seats_of}
+use Rattle.kex_gate.specs.Passes.{Gate, GateHeld, Guest, IsPassFor, Way, guest_with_visit, seats_of}
 use Rattle.kex_gate.specs.Turns.{Met, fast_in_turn, guest_in_turn, met_in_turn, turn_in}
 use Rattle.desk_seats.specs.declared.turns.SeatTurn.{SeatTurn}
 use Rattle.desk_seats.specs.Passes.{SeatHeld, SeatPass, gate_held, guest_pass, plain_pass, way_held, way_pass, way_through}
@@ -35,8 +35,9 @@ in_turn (gate.Again e) = (refl, refl, refl, refl)
 in_turn (gate.Through t) = (refl, refl, refl, refl)
 
 begun_gated : (u : GateTurn) (g : Guest) → guest_in_turn u ≡ g → Met g (met_in_turn u) → (fast_in_turn u ≡ true → met_in_turn u < g.gate.seats.net.width) → (fast_in_turn u ≡ false → g.gate.seats.net.width ≤ met_in_turn u)
+    → IsPassFor g (fast_in_turn u) (names.pass_in_turn (turn_in u)) → IsOut (names.pass_in_turn (turn_in u))
     → (names.IsThrough (turn_in u) ↔ ((plan g.gate.seats.net).start (names.pass_in_turn (turn_in u)).number ≡ (plan g.gate.seats.net).stages)) → Begins (guest_pass g) (gate_turn u)
-begun_gated u g guest met few many at =
+begun_gated u g guest met few many pass rests at =
     let w = in_turn u in let th = through_at_gate u in
     let starts : (plan g.gate.seats.net).start (way_in u).pass.number ≡ (plan g.gate.seats.net).start (names.pass_in_turn (turn_in u)).number = ap (λ (z : Pass). (plan g.gate.seats.net).start z.number) w.3 in record {
       plain = λ none. no_gate (Some g.gate.id) g.gate.id none refl;
@@ -50,6 +51,8 @@ begun_gated u g guest met few many at =
           met = subst (Met g) (sym w.2) met;
           few = λ f. subst (λ (n : ℕ). n < g.gate.seats.net.width) (sym w.2) (few (sym w.1 ∙ f));
           many = λ f. subst (λ (n : ℕ). g.gate.seats.net.width ≤ n) (sym w.2) (many (sym w.1 ∙ f));
+          pass = subst (λ (z : Bool × Pass). IsPassFor g z.0 z.1) (λ i. (sym w.1 i, sym w.3 i)) pass;
+          rests = subst IsOut (sym w.3) rests;
         },
         (λ h. starts ∙ at.0 (th.0 h), λ e. th.1 (at.1 (sym starts ∙ e))),
       );
@@ -58,12 +61,14 @@ begun_gated u g guest met few many at =
 -- a session that took its place at the gate x
 pub begins_gated : (p : SeatPass) (r : SeatTurn) (u : GateTurn) (g : Guest) (x : Gate) → r ≡ gate_turn u → guest_pass g ≡ p → g.gate ≡ x → guest_in_turn u ≡ g → Met g (met_in_turn u)
     → (fast_in_turn u ≡ true → met_in_turn u < x.seats.net.width) → (fast_in_turn u ≡ false → x.seats.net.width ≤ met_in_turn u)
+    → IsPassFor g (fast_in_turn u) (names.pass_in_turn (turn_in u)) → IsOut (names.pass_in_turn (turn_in u))
     → (names.IsThrough (turn_in u) ↔ ((plan x.seats.net).start (names.pass_in_turn (turn_in u)).number ≡ (plan x.seats.net).stages)) → Begins p r
-begins_gated p r u g x is same own guest met few many at =
+begins_gated p r u g x is same own guest met few many pass rests at =
     let back : x ≡ g.gate = sym own in
     let begun = begun_gated u g guest met
     (subst (λ (z : Gate). fast_in_turn u ≡ true → met_in_turn u < z.seats.net.width) back few)
     (subst (λ (z : Gate). fast_in_turn u ≡ false → z.seats.net.width ≤ met_in_turn u) back many)
+    pass rests
     (subst (λ (z : Gate). names.IsThrough (turn_in u) ↔ ((plan z.seats.net).start (names.pass_in_turn (turn_in u)).number ≡ (plan z.seats.net).stages)) back at) in
     subst (λ (z : SeatPass). Begins z r) same (subst (λ (z : SeatTurn). Begins (guest_pass g) z) (sym is) begun)
 

@@ -3,7 +3,7 @@ use Rattle.std.specs.Prelude.{◌≡◌, ◌↔◌, ◌+◌, ◌*◌, ◌<◌, �
 use Rattle.atomic_table.specs.Seated.{TableId}
 use Rattle.kex_core.specs.Costs.{depth}
 use Rattle.kex_core.specs.Shapes.{plan}
-use Rattle.kex_words.specs.Passes.{Pass}
+use Rattle.kex_words.specs.Passes.{IsOut, Pass}
 use Rattle.seat_names.specs.declared.turns.Turn.{Turn}
 use Rattle.seat_names.specs.declared.turns.Turn.TheVariants as seats
 use Rattle.seat_names.specs.Turns.{pass_in_through}
@@ -12,7 +12,7 @@ use Rattle.seat_names.specs.Ways.{Leads}
 use Rattle.kex_gate.specs.declared.passes.GateTurn.{GateTurn}
 use Rattle.kex_gate.specs.declared.passes.GateTurn.TheVariants as gate
 use Rattle.kex_gate.specs.declared.view.Visit.{Visit}
-use Rattle.kex_gate.specs.Passes.{Guest, Way, guest_with_visit}
+use Rattle.kex_gate.specs.Passes.{Guest, IsPassFor, Way, guest_with_visit}
 use Rattle.kex_gate.specs.Turns.{Met, fast_in_turn, guest_in_turn, met_in_turn, turn_in}
 use Rattle.desk_seats.specs.declared.turns.SeatTurn.{SeatTurn}
 use Rattle.desk_seats.specs.declared.turns.SeatTurn.TheVariants.{Again, Through}
@@ -49,14 +49,16 @@ pub record Goes (p q : SeatPass) : Type 0 where
   pub accesses : p.table.gate ≡ None → (way : List Pass) × Leads (pass_of p) way (pass_of q)
   pub visits : (more : List Visit) × (visits_of q.lane ≡ visits_of p.lane ++ more)
 
--- the session g took its place at its gate, and goes by the way w: it is fast where it met fewer others than there are seats, and goes the slow way where it met as many
+-- the session g took its place at its gate, and goes by the way w: it is fast, with a pass of the gate, where it met fewer others than there are seats, and goes the slow way, with its own pass, where it met as many; and it made no access with that pass yet
 pub record Came (g : Guest) (w : Way) : Type 0 where
   pub guest : w.guest ≡ g
   pub met : Met g w.met
   pub few : w.fast ≡ true → w.met < g.gate.seats.net.width
   pub many : w.fast ≡ false → g.gate.seats.net.width ≤ w.met
+  pub pass : IsPassFor g w.fast w.pass
+  pub rests : IsOut w.pass
 
--- a party that was Out begins to enter, and is through exactly where the pass that it uses starts at Exit: with no gate its own, which makes no access yet
+-- a party that was Out begins to enter, and is through exactly where the pass that it uses starts at Exit, with which it made no access yet: with no gate its own, and behind one that with which it came
 pub record Begins (p : SeatPass) (t : SeatTurn) : Type 0 where
   pub plain : p.table.gate ≡ None → (pass_in_turn t ≡ p) × (IsThrough t ↔ ((plan p.table.net).start p.number ≡ (plan p.table.net).stages))
   pub gated : (id : TableId) → p.table.gate ≡ Some id → (g : Guest) × (w : Way) × (p ≡ guest_pass g) × (pass_in_turn t ≡ way_pass w) × Came g w × (IsThrough t ↔ ((plan p.table.net).start w.pass.number ≡ (plan p.table.net).stages))

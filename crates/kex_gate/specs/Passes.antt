@@ -1,5 +1,5 @@
 -- What a gate and its passes are to whoever has them.
-use Rattle.std.specs.Prelude.{◌≡◌, ℕ, ◌+◌, ◌-◌, ◌*◌, ◌%◌, ◌^◌, ◌<◌, ◌≤◌, if◌then◌else◌, Bool, List, [], ◌∷◌, ◌++◌}
+use Rattle.std.specs.Prelude.{◌≡◌, ℕ, ◌+◌, ◌-◌, ◌*◌, ◌%◌, ◌^◌, ◌<◌, ◌≤◌, if◌then◌else◌, Bool, true, false, List, [], ◌∷◌, ◌++◌}
 use Rattle.atomic_table.specs.Seated.{TableId}
 use Rattle.kex_core.specs.declared.place.Place.TheVariants.{Out}
 use Rattle.kex_core.specs.Shapes.{Sheet}
@@ -46,6 +46,12 @@ pub record GateHeld : Type 0 where
 -- how many sessions the net of a gate is for
 abbrev pub sessions : Sheet → ℕ
 sessions net = net.parties - net.width
+
+-- the pass p of the seats is that of a session which came by this way: by the fast way one of the gate's, whose numbers come behind those of the sessions, and by the slow way its own
+pub record IsPassFor (g : Guest) (fast : Bool) (p : Pass) : Type 0 where
+  pub table : p.table ≡ g.gate.seats
+  pub of_gate : fast ≡ true → (sessions g.gate.seats.net ≤ p.number) × (p.number < sessions g.gate.seats.net + g.gate.seats.net.width)
+  pub own : fast ≡ false → p.number ≡ g.number
 
 -- a pass that is Out
 abbrev pub resting : TableNet → ℕ → List ℕ → Pass

@@ -3,9 +3,10 @@ ghost use Rattle.std.specs.Prelude.{◌≡◌, ◌↔◌, ℕ, ◌+◌, ◌*◌,
 ghost use Rattle.kex_core.specs.Costs.{depth};
 ghost use Rattle.kex_core.specs.Shapes.{plan};
 ghost use Rattle.kex_core.specs.declared.place.Place.TheVariants.{Holding};
+ghost use Rattle.kex_words.specs.Passes.{IsOut};
 ghost use Rattle.seat_names.specs.Turns.{IsThrough, Turned};
 ghost use Rattle.kex_gate.specs.declared.view.Spot.TheVariants.{Free, Fast};
-ghost use Rattle.kex_gate.specs.Passes.{sessions, resting, guest_with_visit};
+ghost use Rattle.kex_gate.specs.Passes.{sessions, resting, guest_with_visit, IsPassFor};
 ghost use Rattle.kex_gate.specs.Steps.{last_of, IsSession};
 ghost use Rattle.kex_gate.specs.Turns.{turn_in, guest_in_turn, fast_in_turn, met_in_turn, pass_in_turn, Met};
 
@@ -43,19 +44,22 @@ impl Model for GatedSeats {
 
 impl GatedSeats {
     /// A session begins to enter: it takes its place at the gate and gets the pass that it is to use, and begins to
-    /// enter the seats with that.
+    /// enter the seats with that, which makes no access to their words.
     ///
-    /// It is fast where it met fewer others than there are seats, and it goes the slow way, with its own pass, where it
-    /// met as many or more. Those are met who are not Free when it takes its place.
+    /// It is fast, with a pass of the gate, where it met fewer others than there are seats, and it goes the slow way,
+    /// with its own pass, where it met as many or more. Those are met who are not Free when it takes its place.
     pub fn begin(&self, out: GateOut) -> GateTurn
         requires own { out.gate ≡ self.now }
         ensures same { guest_in_turn result ≡ out }
         ensures met { Met out (met_in_turn result) }
         ensures few { fast_in_turn result ≡ true → met_in_turn result < self.now.seats.net.width }
         ensures many { fast_in_turn result ≡ false → self.now.seats.net.width ≤ met_in_turn result }
+        ensures pass { IsPassFor out (fast_in_turn result) (pass_in_turn result) }
+        ensures rests { IsOut (pass_in_turn result) }
         ensures through { IsThrough (turn_in result) ↔ ((plan self.now.seats.net).start (pass_in_turn result).number ≡ (plan self.now.seats.net).stages) }
     {
         let (pass, lane) = self.admit(out);
+        lane.tells();
         GateTurn::of(self.seats.begin(pass), lane)
     }
 

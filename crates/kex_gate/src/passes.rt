@@ -4,9 +4,9 @@
 //! of a pass as a `Guest`: its `gate`, its `number` and the seats that it had, `visits`, in order, each with the way
 //! that it came. Of one that has entered they see whether it came by the `fast` way, how many others it `met` that were
 //! not Free when it took its place, and the pass of the seats that it uses.
-ghost use Rattle.std.specs.Prelude.{◌≡◌, ◌+◌, ◌<◌, ◌≤◌, true, false, [], ◌∷◌};
+ghost use Rattle.std.specs.Prelude.{◌≡◌, ◌<◌, [], ◌∷◌};
 ghost use Rattle.seat_names.specs.Turns.{pass_in_turn};
-ghost use Rattle.kex_gate.specs.Passes.{sessions};
+ghost use Rattle.kex_gate.specs.Passes.{IsPassFor};
 ghost use Rattle.kex_gate.specs.Steps.{GoesOn};
 ghost use Rattle.kex_gate.specs.Turns.{turn_in, guest_in_turn, fast_in_turn, met_in_turn};
 
@@ -55,10 +55,7 @@ impl Model for Lane {
 impl Lane {
     /// Which pass the session came with.
     pub(crate) fn tells(&self)
-        ensures table { self.now.pass.table ≡ self.now.guest.gate.seats }
-        ensures fast { self.now.fast ≡ true → (sessions self.now.guest.gate.seats.net ≤ self.now.pass.number)
-            × (self.now.pass.number < sessions self.now.guest.gate.seats.net + self.now.guest.gate.seats.net.width) }
-        ensures slow { self.now.fast ≡ false → self.now.pass.number ≡ self.now.guest.number }
+        ensures { IsPassFor self.now.guest self.now.fast self.now.pass }
     {
         let _ = &self.seat;
     }

@@ -9,5 +9,5 @@ use Rattle.kex_gate.proofs.gated.GatedSeats.enter.Goals as goal
 pub returns-clause-fast : goal.returns-clause-fast
 returns-clause-fast g c fast = let n = c.enter.ensures in
     few_of _ _ _ _ _ c.args.self.now c.self.invariant c.self.view_is c.gates_are_short.ensures.of_gate c.admit-pass.result.1 _ _
-    (ap (λ (z : Guest). z.gate) c.admit-pass.ensures.same.0 ∙ c.requires.own) (ap (λ (z : Pass). z.number) (sym c.admit-pass.ensures.same.1)) (c.tells.ensures.fast fast)
+    (ap (λ (z : Guest). z.gate) c.admit-pass.ensures.same.0 ∙ c.requires.own) (ap (λ (z : Pass). z.number) (sym c.admit-pass.ensures.same.1)) (c.tells.ensures.of_gate fast)
     (subst (λ (z : TableNet). c.enter.result.pass.firsts ≤ 3 * depth (plan z.net) c.admit-pass.result.0.number + z.net.width) (ap (λ (z : Gate). z.seats) c.self.view_is) n.accesses)
