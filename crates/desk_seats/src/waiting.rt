@@ -10,8 +10,10 @@ use std::sync::atomic::AtomicU64;
 use std::time::Duration;
 use std::{hint, thread};
 
-/// So many turns in a row spin, those up to the second number yield, and the later ones sleep. The accesses of a path
-/// are fewer than the first number, so whoever took as many turns waits at a spin word.
+/// So many turns of a session spin, those up to the second number yield, and before each later one it sleeps.
+///
+/// The accesses of a path are fewer than the first number, so whoever never waits never sleeps. The count isn't set
+/// back where a stage is passed: whoever waited long at one may sleep before its further accesses too.
 const SPINS: u32 = 1024;
 
 const YIELDS: u32 = 1536;

@@ -1,5 +1,5 @@
-//! Nets, tables of running words and seats in use: steps compared with the machine, schedules, stops and threads, as
-//! tests.
+//! Nets, their machine, tables of running words, and seats with a gate and without in use: some steps by hand, and
+//! threads that come and go, as tests.
 #![tactic(auto)]
 
 #[cfg(test)]
