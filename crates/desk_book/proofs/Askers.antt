@@ -112,6 +112,14 @@ module _ (t u : Ticket) (board : ℕ) (old now : Front) (informed : IsInformed t
       let a = counted in let b = old_count in let l = longer in let e = entries_length u.seen in
       (omega (arith, a, b, l), omega (arith, a, e))
 
+  -- of one number of published entries the board shows as many as there are, now as before
+  pub board_counts : (n : ℕ) × (length c.answer.note.list ≡ min (length (entries_of u.seen)) n) × (board ≡ min (length (entries_of t.seen)) n)
+  board_counts = (
+    runs.published,
+    counted ∙ ap (λ (k : ℕ). min k runs.published) (sym (entries_length u.seen)),
+    old_count ∙ ap (λ (k : ℕ). min k runs.published) (sym (entries_length t.seen)),
+  )
+
   pub makes : (used moment place : ℕ) → used ≡ c.used → c.used ≡ used_at u.law before moment → place ≡ length before % 2 ^ 64
       → Makes (asker_of t board old) (asker_of u (length c.answer.note.list) now) moment place (entries_of before) (entry_of c)
   makes used moment place same used_is place_is = record {
@@ -124,3 +132,12 @@ module _ (t u : Ticket) (board : ℕ) (old now : Front) (informed : IsInformed t
     moment_is = used_is;
     place_is = place_is ∙ ap (λ (n : ℕ). n % 2 ^ 64) (sym (entries_length before));
   }
+
+-- what a party knows of the board has at least as many entries as the board showed at its last call
+pub known_longer : (t : Ticket) (board : ℕ) (known : Front) → IsInformed t board known → board ≤ length known.list
+known_longer t board known informed =
+    let short : board ≡ min (length t.seen) informed.runs.published = informed.count informed.runs.published informed.runs.noted in
+    let long : length (entries_of t.seen) ≡ length t.seen = entries_length t.seen in
+    let shown : length (take board (entries_of t.seen)) ≡ min board (length (entries_of t.seen)) = length-take board (entries_of t.seen) in
+    let more : length known.list ≡ length (take board (entries_of t.seen)) + length informed.told.0 = ap length informed.told.1 ∙ length-append (take board (entries_of t.seen)) informed.told.0 in
+    omega (arith, short, long, shown, more)

@@ -1,5 +1,5 @@
 //! What a party asks a desk's book with.
-ghost use Rattle.std.specs.Prelude.{◌≡◌, ◌≤◌, [], List, length, take};
+ghost use Rattle.std.specs.Prelude.{◌≡◌, ◌≤◌, ℕ, [], List, length, min, take};
 ghost use Rattle.counter.specs.Account.{Extends};
 ghost use Rattle.counter.specs.Glances.{glance_of};
 ghost use Rattle.options_machine.specs.declared.reply.Entry.{Entry};
@@ -90,8 +90,9 @@ impl BookPass {
         ensures same { (self.new.lock ≡ self.old.lock) × (self.new.number ≡ self.old.number) × (self.new.law ≡ self.old.law) }
         ensures makes { (before : List Entry) × Makes self.old self.new moment result.place before (record { request = request.now; moment = result.used; reply = result.answer }) }
 
-        // What was on the board stays there, and it shows no more than the history.
+        // What was on the board stays there, and it shows all of the history, or, once it has ended, what it showed then.
         ensures board { (self.old.board ≤ self.new.board) × (self.new.board ≤ length self.new.seen) }
+        ensures published { (n : ℕ) × (self.new.board ≡ min (length self.new.seen) n) × (self.old.board ≡ min (length self.old.seen) n) }
         ensures known { Extends self.old.known.list self.new.known.list }
     {
         let _inside = self.ticket.number();
@@ -130,9 +131,11 @@ impl BookPass {
         self.view.glance()
     }
 
-    /// What this party knows of the board, for other parties of the desk.
+    /// What this party knows of the board, for other parties of the desk: at least what the board showed at its last
+    /// call.
     pub fn note(&self) -> BoardNote
         ensures known { result ≡ self.now.known }
+        ensures board { self.now.board ≤ length result.list }
         ensures same { IsSameBoard self.now.law.board result }
     {
         self.view.note()

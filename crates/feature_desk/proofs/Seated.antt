@@ -18,7 +18,7 @@ use Rattle.feature_desk.specs.declared.passes.Seating.TheVariants as seating
 use Rattle.feature_desk.specs.Sitters.{NotedView, Sitter}
 use Rattle.desk_book.specs.Askers.{Asker}
 use Rattle.feature_desk.specs.Sittings.{Agree, AreLow, Sits, Waits, is_entering, is_hold, pass_in}
-use Rattle.feature_desk.specs.Seatings.{GoesOn, IsUnderWay, MatchedAs, Matches, Starts}
+use Rattle.feature_desk.specs.Seatings.{Gives, GoesOn, IsUnderWay, MatchedAs, Matches, Starts}
 use Rattle.feature_desk.proofs.Lasts.{last_of}
 
 low_more : (width : ℕ) (got : List ℕ) (s : ℕ) → AreLow width got → s < width → AreLow width (got ++ s ∷ [])
@@ -79,10 +79,10 @@ again_or_through (Through h) = (λ a th. a, λ no. no tt)
 
 -- a step towards a seat that was brought goes on where it left the party among the stages
 pub goes_on : (b entering : Bool) (p : SeatPass) (t : SeatTurn) (s : Seating) → b ≡ true → (pass_in_turn t).table ≡ p.table → (pass_in_turn t).number ≡ p.number
-    → Starts entering p t → (IsUnderWay s → IsAgain t) → (IsAgain t → IsUnderWay s) → GoesOn b entering p s
-goes_on false entering p t s is table number starts f g = absurd (let never : false ≡ true = is in cc)
-goes_on true true p t s is table number starts f g = (t, starts, (f, g))
-goes_on true false p t s is table number (out, rests, goes, begins) f g = record {
+    → Starts entering p t → Gives t s → (IsUnderWay s → IsAgain t) → (IsAgain t → IsUnderWay s) → GoesOn b entering p s
+goes_on false entering p t s is table number starts gives f g = absurd (let never : false ≡ true = is in cc)
+goes_on true true p t s is table number starts gives f g = (t, starts, gives)
+goes_on true false p t s is table number (out, rests, goes, begins) gives f g = record {
   plain = λ none.
       let gate : out.table.gate ≡ None = ap (λ (v : SeatsView). v.gate) goes.table ∙ none in
       let at = (begins.plain gate).1 in
@@ -90,22 +90,30 @@ goes_on true false p t s is table number (out, rests, goes, begins) f g = record
       let stages : (plan out.table.net).stages ≡ (plan p.table.net).stages = ap (λ (z : SeatsView). (plan z.net).stages) goes.table in
       let a = again_or_through t in
       (λ under ends. a.0 (f under) (at.1 (start ∙ (ends ∙ sym stages))), λ not_there. g (a.1 (λ th. not_there (sym start ∙ (at.0 th ∙ stages)))));
-  begun = (t, (out, rests, goes, begins), (f, g));
+  begun = (t, (out, rests, goes, begins), gives);
 }
 
 pub matched_brought : (n : NotedView) (p : Sitter) (s : ℕ) → brings_seat n.asked.reply ≡ true → p.ticket ≡ n.sitter.ticket → p.seat.place ≡ Holding s → p.seat.got ≡ n.sitter.seat.got ++ s ∷ [] → Goes n.sitter.seat p.seat → MatchedAs n p
 matched_brought n p s brings ticket place got goes = record { ticket = ticket; seat = subst (λ (b : Bool). Matches b n.asked.held n.sitter.seat p.seat) (sym brings) (s, place, got); goes = goes }
 
+gives_way : (t : SeatTurn) (m : NotedView) → IsAgain t → m.sitter.seat ≡ pass_in_turn t → Gives t (seating.Again m)
+gives_way (Again e) m again seat = seat
+gives_way (Through h) m again seat = again
+
+gives_seat : (t : SeatTurn) (p : Sitter) (a : Asked) → IsThrough t → Goes (pass_in_turn t) p.seat → Gives t (seating.Matched p a)
+gives_seat (Again e) p a through goes = through
+gives_seat (Through h) p a through goes = goes
+
 -- a step that left the party among the stages
 pub under_way : (n k m : NotedView) (t : SeatTurn) → n ≡ k → brings_seat n.asked.reply ≡ true → (pass_in_turn t).table ≡ n.sitter.seat.table → (pass_in_turn t).number ≡ n.sitter.seat.number
-    → Starts n.entering n.sitter.seat t → IsAgain t → GoesOn (brings_seat k.asked.reply) k.entering k.sitter.seat (seating.Again m)
-under_way n k m t same brings table number starts again =
+    → Starts n.entering n.sitter.seat t → IsAgain t → m.sitter.seat ≡ pass_in_turn t → GoesOn (brings_seat k.asked.reply) k.entering k.sitter.seat (seating.Again m)
+under_way n k m t same brings table number starts again seat =
     subst (λ (z : NotedView). GoesOn (brings_seat z.asked.reply) z.entering z.sitter.seat (seating.Again m)) same
-    (goes_on (brings_seat n.asked.reply) n.entering n.sitter.seat t (seating.Again m) brings table number starts (λ u. again) (λ a. tt))
+    (goes_on (brings_seat n.asked.reply) n.entering n.sitter.seat t (seating.Again m) brings table number starts (gives_way t m again seat) (λ u. again) (λ a. tt))
 
 -- a step that led through the stages
 pub there : (n k : NotedView) (p : Sitter) (a : Asked) (t : SeatTurn) → n ≡ k → brings_seat n.asked.reply ≡ true → (pass_in_turn t).table ≡ n.sitter.seat.table → (pass_in_turn t).number ≡ n.sitter.seat.number
-    → Starts n.entering n.sitter.seat t → IsThrough t → GoesOn (brings_seat k.asked.reply) k.entering k.sitter.seat (seating.Matched p a)
-there n k p a t same brings table number starts through =
+    → Starts n.entering n.sitter.seat t → IsThrough t → Goes (pass_in_turn t) p.seat → GoesOn (brings_seat k.asked.reply) k.entering k.sitter.seat (seating.Matched p a)
+there n k p a t same brings table number starts through goes =
     subst (λ (z : NotedView). GoesOn (brings_seat z.asked.reply) z.entering z.sitter.seat (seating.Matched p a)) same
-    (goes_on (brings_seat n.asked.reply) n.entering n.sitter.seat t (seating.Matched p a) brings table number starts (λ under. absurd under) (λ again. (again_or_through t).0 again through))
+    (goes_on (brings_seat n.asked.reply) n.entering n.sitter.seat t (seating.Matched p a) brings table number starts (gives_seat t p a through goes) (λ under. absurd under) (λ again. (again_or_through t).0 again through))

@@ -3,8 +3,9 @@ use Rattle.std.specs.Prelude.{◌≡◌, ◌≢◌, ◌↔◌, ℕ, Bool, true, 
 use Rattle.kex_core.specs.declared.place.Place.TheVariants.{Holding}
 use Rattle.kex_core.specs.Shapes.{plan}
 use Rattle.desk_seats.specs.declared.turns.SeatTurn.{SeatTurn}
+use Rattle.desk_seats.specs.declared.turns.SeatTurn.TheVariants as turn
 use Rattle.desk_seats.specs.Passes.{IsOut, SeatPass}
-use Rattle.desk_seats.specs.Turns.{Begins, Goes, IsAgain, Turned}
+use Rattle.desk_seats.specs.Turns.{Begins, Goes, Turned}
 use Rattle.counter.specs.Account.{brings_seat}
 use Rattle.feature_desk.specs.declared.passes.Seating.{Seating}
 use Rattle.feature_desk.specs.declared.passes.Seating.TheVariants.{Again, Matched}
@@ -40,6 +41,13 @@ abbrev pub IsUnderWay : Seating → Type 0
 IsUnderWay (Again m) = Unit {0}
 IsUnderWay (Matched p asked) = ⊥
 
+-- a turn at the seats is all that a step takes: where the party has to take another one its seat is as the turn left it, and else it is named from there
+abbrev pub Gives : SeatTurn → Seating → Type 0
+Gives (turn.Again e) (Again m) = m.sitter.seat ≡ e
+Gives (turn.Again e) (Matched p asked) = ⊥
+Gives (turn.Through t) (Again m) = ⊥
+Gives (turn.Through t) (Matched p asked) = Goes t p.seat
+
 -- a first step leaves what is held and begins to enter; a later one is a turn
 abbrev pub Starts : Bool → SeatPass → SeatTurn → Type 0
 Starts false p t = (out : SeatPass) × IsOut out × Goes p out × Begins out t
@@ -48,13 +56,13 @@ Starts true p t = Turned p t
 -- a first step goes on where what it begins does: with no gate before the seats it goes past a start at Exit alone
 pub record FirstStep (p : SeatPass) (s : Seating) : Type 0 where
   pub plain : p.table.gate ≡ None → IsUnderWay s ↔ ((plan p.table.net).start p.number ≢ (plan p.table.net).stages)
-  pub begun : (t : SeatTurn) × Starts false p t × (IsUnderWay s ↔ IsAgain t)
+  pub begun : (t : SeatTurn) × Starts false p t × Gives t s
 
--- where no seat has to be entered, none has to be taken; a later step than the first is a turn at the seats, and goes on where that did
+-- where no seat has to be entered, none has to be taken; a later step than the first is one turn at the seats, and goes on where that did
 abbrev pub GoesOn : Bool → Bool → SeatPass → Seating → Type 0
 GoesOn false entering p s = IsUnderWay s → ⊥
 GoesOn true false p s = FirstStep p s
-GoesOn true true p s = (t : SeatTurn) × Turned p t × (IsUnderWay s ↔ IsAgain t)
+GoesOn true true p s = (t : SeatTurn) × Turned p t × Gives t s
 
 -- the seat is as it was
 abbrev pub Keeps : NotedView → Seating → Type 0

@@ -1,5 +1,5 @@
 -- What passes keep.
-use Rattle.std.specs.Prelude.{◌≡◌, ℕ, ◌+◌, Bool, true, false, List, nat_lt, length, None, Some, if◌then◌else◌}
+use Rattle.std.specs.Prelude.{◌≡◌, ℕ, ◌+◌, Bool, true, false, List, Option, nat_lt, length, None, Some, if◌then◌else◌}
 use Rattle.std.specs.List.{list_all}
 use Rattle.kex_core.specs.declared.place.Place.{Place}
 use Rattle.kex_core.specs.declared.place.Place.TheVariants.{Out, Dec, Mark, Look, Spin, Naming, Named, Holding, Clearing, Inc, Unmark}
@@ -54,6 +54,11 @@ state_at (Named s) = state.Out
 state_at (Clearing s) = state.Out
 state_at (Inc j) = state.Out
 state_at (Unmark j) = state.Out
+
+-- what a seat, or none, is to whoever asks
+abbrev pub state_of : Option ℕ → DeskState
+state_of None = state.Out
+state_of (Some s) = state.Hold s
 
 -- numbers of seats, of which there are so many
 abbrev pub AreLow : ℕ → List ℕ → Type 0

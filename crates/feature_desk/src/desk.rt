@@ -1,15 +1,15 @@
 //! A desk, and the entries that are made at it.
-ghost use Rattle.std.specs.Prelude.{◌≡◌, ◌≤◌, length, if◌then◌else◌, List, false};
+ghost use Rattle.std.specs.Prelude.{◌≡◌, ◌≤◌, ℕ, length, min, if◌then◌else◌, List, false};
 ghost use Rattle.std.specs.Option.{is_none};
 ghost use Rattle.options_machine.specs.declared.reply.Entry.{Entry};
 ghost use Rattle.options_machine.specs.Own.{is_of_holding, is_of_queueing};
 ghost use Rattle.options_machine.specs.Run.{AsksForSet, IsBelow};
 ghost use Rattle.options_machine.specs.Step.{set_asked};
-ghost use Rattle.counter.specs.Account.{Enters, Extends};
+ghost use Rattle.counter.specs.Account.{Enters, Extends, seat_of};
 ghost use Rattle.desk_seats.specs.Passes.{held_at};
 ghost use Rattle.desk_book.specs.Askers.{Makes};
 ghost use Rattle.feature_desk.specs.Sitters.{account_of, IsOf};
-ghost use Rattle.feature_desk.specs.Sittings.{state_at};
+ghost use Rattle.feature_desk.specs.Sittings.{state_at, state_of};
 ghost use Rattle.stat_board.specs.Fronts.{IsSameBoard};
 
 use crate::passes::{Chair, DeskPass, DeskState, Noted};
@@ -74,6 +74,7 @@ impl Desk {
         ensures entry { (before : List Entry) × (e : Entry) × Enters (account_of pass) (account_of result.sitter) kind client.now moment result.asked before e }
         ensures seat { result.sitter.seat ≡ pass.seat }
         ensures board { (pass.ticket.board ≤ result.sitter.ticket.board) × (result.sitter.ticket.board ≤ length result.sitter.ticket.seen) }
+        ensures published { (n : ℕ) × (result.sitter.ticket.board ≡ min (length result.sitter.ticket.seen) n) × (pass.ticket.board ≡ min (length pass.ticket.seen) n) }
         ensures known { Extends pass.ticket.known.list result.sitter.ticket.known.list }
         ensures rests { result.entering ≡ false }
         ensures of { IsOf result.sitter self.now }
@@ -114,6 +115,7 @@ impl Desk {
         ensures makes { (before : List Entry) × Makes ticket.old ticket.new moment result.place before (record { request = request.now; moment = result.moment; reply = result.reply }) }
         ensures held { result.held ≡ (if is_none (set_asked request.now.kind) then is_of_holding result.reply else held) }
         ensures board { (ticket.old.board ≤ ticket.new.board) × (ticket.new.board ≤ length ticket.new.seen) }
+        ensures published { (n : ℕ) × (ticket.new.board ≡ min (length ticket.new.seen) n) × (ticket.old.board ≡ min (length ticket.old.seen) n) }
         ensures known { Extends ticket.old.known.list ticket.new.known.list }
     {
         let told = ticket.ask(rt, &self.turns, request, moment);
@@ -127,16 +129,20 @@ impl Desk {
 }
 
 impl DeskPass {
-    /// What the party has at the seats.
+    /// What the party has at the seats: the seat that its account tells of, exactly while its standing reply is of
+    /// holding, and else none.
     pub fn state(&self) -> DeskState
-        ensures { result ≡ state_at self.now.seat.place }
+        ensures place { result ≡ state_at self.now.seat.place }
+        ensures seat { result ≡ state_of (seat_of (account_of self.now)) }
     {
         self.chair.state()
     }
 
-    /// What this party knows of the desk's board, for other parties of the desk.
+    /// What this party knows of the desk's board, for other parties of the desk: at least what the board showed at its
+    /// last call.
     pub fn note(&self) -> BoardNote
         ensures known { result ≡ self.now.ticket.known }
+        ensures board { self.now.ticket.board ≤ length result.list }
         ensures same { IsSameBoard self.now.ticket.law.board result }
     {
         self.ticket.note()

@@ -1,9 +1,9 @@
-use Rattle.std.proofs.Common.{◌≡◌, ◌++◌, length, refl, sym, ap, subst, arith, ◌∙◌}
+use Rattle.std.proofs.Common.{◌≡◌, ◌++◌, length, min, refl, sym, ap, subst, arith, ◌∙◌}
 use Rattle.options_machine.specs.Run.{AsksForSet}
 use Rattle.turn_lock.specs.Entries.{entry}
 use Rattle.desk_book.specs.Askers.{Asker, IsInformed, Makes, asker_of}
 use Rattle.desk_book.specs.Standing.{Call, entries_of}
-use Rattle.desk_book.proofs.Askers.{board_grows, informed_now, makes, same_board}
+use Rattle.desk_book.proofs.Askers.{board_counts, board_grows, informed_now, makes, same_board}
 use Rattle.desk_book.proofs.pass.BookPass.ask.Goals as goal
 
 pub ask-answer-requires-clause-fits : goal.ask-answer-requires-clause-fits
@@ -50,3 +50,11 @@ returns-clause-board g c =
     let old : c.self.inside.board ≡ c.args.self.now.board = ap (λ (o : Asker). o.board) c.self.view_is in
     let low = grows.0 in let high = grows.1 in
     (omega (arith, front, old, low), omega (arith, front, high))
+
+pub returns-clause-published : goal.returns-clause-published
+returns-clause-published g c =
+    let a = c.ask-answer.ensures in let t = c.self.inside.ticket in let r = c.ask-answer.result in
+    let call : Call = entry c.args.request.now r.used r.answer in
+    let front : c.front-self-inside.result ≡ length r.answer.note.list = c.front-self-inside.ensures in
+    let counts = board_counts t c.ask-answer.new.pass c.self.inside.board c.self.inside.view c.hear.new.self c.self.invariant call a.seen.0 a.same.0 a.same.1 a.same.2 a.seen.1 a.runs a.mine a.own in
+    (counts.0, front ∙ counts.1, subst (λ (o : Asker). o.board ≡ min (length o.seen) counts.0) c.self.view_is counts.2)

@@ -1,5 +1,6 @@
 use Rattle.std.proofs.Common.{◌≡◌, ◌<◌, ℕ, true, List, [], ◌∷◌, ap, sym, ◌∙◌, ◌++◌, subst, refl}
-use Rattle.desk_seats.specs.Turns.{IsAgain, IsThrough}
+use Rattle.desk_seats.specs.Passes.{SeatPass}
+use Rattle.desk_seats.specs.Turns.{Goes, IsAgain, IsThrough, pass_in_turn}
 use Rattle.desk_seats.proofs.Goings as going
 use Rattle.counter.specs.Account.{brings_seat}
 use Rattle.feature_desk.specs.Sitters.{DeskView, NotedView, Sitter}
@@ -22,7 +23,7 @@ returns-in-Again-clause-on c =
     let brings : brings_seat c.noted.inside.asked.reply ≡ true = sym c.if-not-brings_seat.ensures in
     let again : IsAgain c.stepped.result = subst IsAgain (sym c.in-Again.is) tt in
     under_way (record { sitter = record { ticket = c.noted.inside.ticket; seat = pass_in c.noted.inside.chair }; asked = c.noted.inside.asked; entering = is_entering c.noted.inside.chair }) c.args.noted
-    (record { sitter = record { ticket = c.noted.inside.ticket; seat = c.in-Again.entering }; asked = c.noted.inside.asked; entering = true }) c.stepped.result c.noted.view_is brings s.own.0 s.own.1 s.starts again
+    (record { sitter = record { ticket = c.noted.inside.ticket; seat = c.in-Again.entering }; asked = c.noted.inside.asked; entering = true }) c.stepped.result c.noted.view_is brings s.own.0 s.own.1 s.starts again (sym (ap pass_in_turn c.in-Again.is))
 
 pub returns-in-Through-clause-on : goal.returns-in-Through-clause-on
 returns-in-Through-clause-on c =
@@ -31,6 +32,7 @@ returns-in-Through-clause-on c =
     let through : IsThrough c.stepped.result = subst IsThrough (sym c.in-Through.is) tt in
     there (record { sitter = record { ticket = c.noted.inside.ticket; seat = pass_in c.noted.inside.chair }; asked = c.noted.inside.asked; entering = is_entering c.noted.inside.chair }) c.args.noted
     (record { ticket = c.noted.inside.ticket; seat = c.name-hold.result.pass }) c.noted.inside.asked c.stepped.result c.noted.view_is brings s.own.0 s.own.1 s.starts through
+    (subst (λ (q : SeatPass). Goes q c.name-hold.result.pass) (sym (ap pass_in_turn c.in-Through.is)) c.name-hold.ensures.goes)
 
 pub returns-in-Through-clause-steps : goal.returns-in-Through-clause-steps
 returns-in-Through-clause-steps c =
