@@ -5,7 +5,7 @@ use Rattle.feature_desk.specs.Sitters.{DeskView}
 use Rattle.licence_office.specs.Offices.{IsDeskFor}
 use Rattle.licence_tool.specs.Files.{Bytes}
 use Rattle.licence_tool.specs.declared.status.Status.TheVariants as tool
-use Rattle.outside.specs.Told.{TakesPrefix}
+use Rattle.outside.specs.Told.{TakesPrefix, held_after}
 use Rattle.trial_run.specs.Tried.{Tried, each_alone, trial_setup}
 use Rattle.trial_run.specs.declared.player.Trial.{Trial}
 use Rattle.trial_terms.specs.Terms.{no_options, trial_pool}
@@ -34,6 +34,12 @@ has_tried n kept trial held IsText text =
       uses_are = t.uses_are;
       text = text;
     }
+
+-- its text was written
+pub whole_written : (n : TrialNumbers) (kept : List Visit → Type 0) (trial : Trial) → ((desk : DeskView) × IsDeskFor (no_options ∷ []) n.clients (trial_pool n.seats) desk × Tried desk (trial_setup n.seats) n.clients kept trial)
+    → (out_old out_new : Bytes) (piece : List ℕ) → piece ≡ trial_text n trial → out_new ≡ held_after out_old piece → HasTried n kept (λ text. out_new ≡ held_after out_old text)
+whole_written n kept trial held out_old out_new piece e h =
+    has_tried n kept trial held (λ text. out_new ≡ held_after out_old text) (subst (λ (text : List ℕ). out_new ≡ held_after out_old text) e h)
 
 -- a prefix of it was
 pub front_written : (n : TrialNumbers) (kept : List Visit → Type 0) (trial : Trial) → ((desk : DeskView) × IsDeskFor (no_options ∷ []) n.clients (trial_pool n.seats) desk × Tried desk (trial_setup n.seats) n.clients kept trial)

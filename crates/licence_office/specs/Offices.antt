@@ -1,11 +1,13 @@
 -- What an office and its passes are to whoever has them.
-use Rattle.std.specs.Prelude.{◌≡◌, ℕ, ◌+◌, ◌*◌, ◌<◌, Bool, ◌&&◌, nat_le, nat_lt, is_some, List, [], get_or, length, map, min, Vec}
+use Rattle.std.specs.Prelude.{◌≡◌, ℕ, ◌+◌, ◌*◌, ◌<◌, Bool, true, false, ◌&&◌, nat_le, nat_lt, is_some, List, [], get_or, length, map, min, Vec}
 use Rattle.lic_types.specs.declared.limits.TheConstants.{PARTY_LIMIT}
 use Rattle.counter.specs.Account.{Account}
 use Rattle.desk_seats.specs.Views.{parties_of}
 use Rattle.feature_desk.specs.Closings.{Rests}
 use Rattle.feature_desk.specs.Sitters.{DeskView, IsOf, Sitter, account_of, newcomer}
 use Rattle.feature_lines.specs.declared.pool.Pool.{Pool}
+use Rattle.kex_net.specs.Gates.{IsGated}
+use Rattle.kex_net.specs.Trees.{IsTree}
 use Rattle.office_view.specs.View.{View}
 use Rattle.options_text.specs.Options.{OptionsFile}
 use Rattle.policy.specs.Pools.{rules_of}
@@ -26,6 +28,9 @@ pub record IsDeskFor (sets : List OptionsFile) (n : ℕ) (pool : Pool) (d : Desk
   pub seated : parties_of d.seats ≡ n
   pub gate_is : is_some d.seats.gate ≡ has_gate n pool.count
   pub seats_are : d.seats.net.width ≡ min pool.count n
+  -- they stand on the net of a gate where there is one, and else on the tree
+  pub gated_net : has_gate n pool.count ≡ true → IsGated n pool.count d.seats.net
+  pub tree_net : has_gate n pool.count ≡ false → IsTree n pool.count d.seats.net
 
 -- each party has its pass of each desk, in the order of the desks, and has asked nothing
 abbrev pub AreDealt : {Z : Type 0} → List DeskView → List (Vec Sitter Z) → Type 0
