@@ -203,7 +203,7 @@ fn eight_threads_share_the_reader(rt: HostRuntime) -> Result<(), Fail> {
         .collect(rt.alloc());
     let Ok(watchers) = watching else {
         board.end(&rt);
-        return Ok(());
+        panic!(rt; "no memory")
     };
     assert_eq!(rt;
         publish_and_watch_all(&rt, board, watchers, ann),
