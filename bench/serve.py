@@ -91,13 +91,19 @@ def daemon(program, clients, pools, options):
             sys.exit(f"bench: status {status}, {err}")
 
 
+def all_up(up, program, peers, clients):
+    """The name, the socket and the pools of each server, the echo first: the peers and a daemon on each site, as long as `up` is open."""
+    servers = [(ECHO, up.enter_context(peer(peers, "echo")), 1)]
+    for site, (pools, options) in SITES.items():
+        servers.append((site, up.enter_context(daemon(program, clients, pools, options)), pools))
+        servers.append((PLAIN[site], up.enter_context(peer(peers, "plain", str(pools), options=options)), pools))
+    return servers
+
+
 def run(program, peers, clients):
     """Of the peers and the daemon on each site, all up at once and asked in turns, the mean of what their turns found, and the most that others took in one."""
     with ExitStack() as up:
-        servers = [(ECHO, up.enter_context(peer(peers, "echo")), 1)]
-        for site, (pools, options) in SITES.items():
-            servers.append((site, up.enter_context(daemon(program, clients, pools, options)), pools))
-            servers.append((PLAIN[site], up.enter_context(peer(peers, "plain", str(pools), options=options)), pools))
+        servers = all_up(up, program, peers, clients)
         turns = {name: [] for name, _, _ in servers}
         most_taken = 0
         for n in range(TURNS):
@@ -172,11 +178,17 @@ def at_rest(program):
                 link.close()
 
 
-def main():
+def words():
+    """The folder of the peers, and the program."""
     peers = sys.argv[1]
     program = os.path.abspath(sys.argv[2] if len(sys.argv) > 2 else "crates/licence_main/out/licence_main")
     if not os.access(program, os.X_OK):
         sys.exit(f"bench: {program} isn't built")
+    return peers, program
+
+
+def main():
+    peers, program = words()
     at_rest(program)
     compare(program, peers)
 

@@ -3,6 +3,8 @@
 # small licence daemon in plain Rust with a thread for each connection (bench/peers/echo.rs, plain.rs and ask.rs, which
 # rustc builds here without a network), at one pool, at 64, and under 1,000 lines of options; and what the daemon takes
 # at rest. A turn in which others took more than 3 % of the processors is asked again, up to seven times.
+# `serve.sh turns`: 16 and 256 clients in many short turns, and of each server the mean of its parts of the echo's requests
+# in the same turns, with its error.
 # Build the program first: (cd crates/licence_main && rt run -- check data/licence data/options)
 cd "$(dirname "$0")/.." || exit 1
 peers=$(mktemp -d) || exit 1
@@ -10,4 +12,6 @@ trap 'rm -rf "$peers"' EXIT
 for peer in echo plain ask; do
     rustc -O "bench/peers/$peer.rs" -o "$peers/$peer" || exit 1
 done
-python3 -B bench/serve.py "$peers" "$@"
+bench=serve
+[ "$1" = turns ] && bench=turns && shift
+python3 -B "bench/$bench.py" "$peers" "$@"
