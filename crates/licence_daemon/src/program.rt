@@ -126,8 +126,8 @@ fn trial_command<R: Threads + Wait + Sync, O: Sink, E: Sink, S: Site>(
 ///
 /// `trial-threads` takes the memory of an office of 2 to 256 clients and one feature of 1 to 65,535 seats, makes a post
 /// for each client without listening, lets each client take a seat and give it back 1 to 10,000 times, each in a
-/// session of its own, all at once, and writes its numbers, the grants, and how often the cards of the seats were used.
-/// Want of memory may come before the first post is made, and not behind that.
+/// session of its own, all at once, and writes its numbers, the grants, and how often the cards of the seats were used:
+/// both are CLIENTS times ROUNDS. Want of memory may come before the first post is made, and not behind that.
 ///
 /// For every status of these two but `Done` one line goes to `err`; a fault there changes no status.
 ///
@@ -170,9 +170,9 @@ pub fn licenced<R: Threads + Wait + Sync, F: Files, O: Sink, E: Sink, S: Site>(
         (HasFailed (F.failed files.old) (F.failed files.new)) (serve_told (F.contents files.old) names.files) result) }
 
     // What came of a trial, which asks for no file. On Done and WriteFault there is one session for each client, and
-    // one history of the trial's pool, a run of its rules, which has the entries of these sessions and no others; and
-    // out gained the text of its numbers, of the grants in that history and of as many uses of the cards, or on
-    // WriteFault a prefix of it.
+    // one history of the trial's pool, a run of its rules, which has the entries of these sessions and no others, and
+    // which grants CLIENTS times ROUNDS seats; and out gained the text of its numbers, of these grants and of as many
+    // uses of the cards, or on WriteFault a prefix of it.
     ensures trial { ForTrial (trial_in words.now) (λ n. TrialSays n (λ sessions. Follows S.keeps site.old site.new (kept_of (S.made site.old) sessions))
         ((posts : ℕ) × Follows S.keeps site.old site.new (kept_from (S.made site.old) (no_sessions posts)))
         (S.faults site.old) (S.faults site.new) (O.held out.old) (O.held out.new) (HasRisen (O.faults out.old) (O.faults out.new)) result) }

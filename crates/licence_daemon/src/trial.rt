@@ -36,7 +36,7 @@ fn put_both(room: &mut [u8], at: usize, text: &[u8], n: u64) -> usize
 /// Writes the text of a trial at the start of the room, and gives how many bytes it takes.
 fn put_trial(room: &mut [u8; TRIAL_ROOM], numbers: &TrialNumbers, trial: &Trial) -> usize
     ensures offset { result ≤ 160 }
-    ensures written { take result room.new ≡ trial_text numbers.now trial.now }
+    ensures written { take result room.new ≡ trial_text numbers.now trial.now.grants trial.now.uses }
 {
     let at = put_both(room, 0, b"CLIENTS ", u64::from(numbers.clients));
     let at = put_both(room, at, b" SEATS ", u64::from(numbers.seats));
@@ -46,7 +46,8 @@ fn put_trial(room: &mut [u8; TRIAL_ROOM], numbers: &TrialNumbers, trial: &Trial)
     put(room, at, b"\n")
 }
 
-/// Holds a trial and writes what it came to, without the line on standard error.
+/// Holds a trial and writes what it came to, without the line on standard error: its numbers, and how many replies
+/// brought a seat and how often the cards were used, which is once for each round of each client.
 ///
 /// All memory is taken before the first post is made. It gives every post of the site back, however it ends.
 pub fn try_numbers<R: Threads + Wait + Sync, O: Sink, S: Site>(

@@ -28,7 +28,7 @@ use Rattle.session.specs.declared.asked.Whom.TheVariants.{Holding, Keeping, Ever
 use Rattle.session.specs.declared.end.SessionEnd.{SessionEnd}
 use Rattle.session.specs.declared.end.SessionEnd.TheVariants as ends
 
-talk_append : (as' bs : List Act) → talk_of (as' ++ bs) ≡ talk_of as' ++ talk_of bs
+pub talk_append : (as' bs : List Act) → talk_of (as' ++ bs) ≡ talk_of as' ++ talk_of bs
 talk_append as' bs = flat_map-append _ as' bs
 
 heard_append : (as' bs : List Act) → heard_of (as' ++ bs) ≡ heard_of as' ++ heard_of bs
@@ -38,7 +38,7 @@ written_append : (as' bs : List Act) → written_of (as' ++ bs) ≡ written_of a
 written_append as' bs = ap (flat_map written_in) (talk_append as' bs) ∙ flat_map-append written_in (talk_of as') (talk_of bs)
 
 -- a line is written, whole or in part
-abbrev IsReply : Event → Type 0
+abbrev pub IsReply : Event → Type 0
 IsReply (Heard piece) = ⊥
 IsReply Silence = ⊥
 IsReply Ended = ⊥
@@ -47,10 +47,10 @@ IsReply (Wrote piece) = Unit {0}
 IsReply (WriteFault part) = Unit {0}
 
 -- all that the link sees of these acts is one line that is written
-record Says (acts : List Act) : Type 0 where
-  reply : Event
-  is_reply : IsReply reply
-  talk : talk_of acts ≡ reply ∷ []
+pub record Says (acts : List Act) : Type 0 where
+  pub reply : Event
+  pub is_reply : IsReply reply
+  pub talk : talk_of acts ≡ reply ∷ []
 
 reply_heard : (e : Event) → IsReply e → flat_map heard_in (e ∷ []) ≡ []
 reply_heard (Heard piece) r = absurd r
@@ -88,7 +88,7 @@ asks_quiet : (client : Client) (what : Kind) (js : List ℕ) (new : List Act) �
 asks_quiet client what [] new h = ap talk_of h
 asks_quiet client what (j ∷ js) new h = ap talk_of h.3 ∙ asks_quiet client what js h.2 h.5
 
-any_quiet : (whom : Whom) (o : Setup) (acts : List Act) (client : Option Client) (what : Kind) (new : List Act) → AsksAny whom o acts client what new → talk_of new ≡ []
+pub any_quiet : (whom : Whom) (o : Setup) (acts : List Act) (client : Option Client) (what : Kind) (new : List Act) → AsksAny whom o acts client what new → talk_of new ≡ []
 any_quiet whom o acts None what new h = ap talk_of h
 any_quiet whom o acts (Some c) what new h = asks_quiet c what (desks whom o acts (length o.pools)) new h
 
@@ -129,7 +129,7 @@ obeys_says o acts None i new then out h = meets_says o acts i new then out h
 obeys_says o acts (Some c) i new then out h = does_says o acts c i new out h.1
 
 -- a line is answered by one line
-answers_says : (o : Setup) (acts : List Act) (client : Option Client) (req : Result Wire WireFault) (new : List Act) (then : Option Client) (out : Option SessionEnd) → Answers o acts client req new then out → Says new
+pub answers_says : (o : Setup) (acts : List Act) (client : Option Client) (req : Result Wire WireFault) (new : List Act) (then : Option Client) (out : Option SessionEnd) → Answers o acts client req new then out → Says new
 answers_says o acts client (Err fault) new then out h = writes_says (told.Bad (number_of_fault fault)) [] None out new refl h.1
 answers_says o acts client (Ok request) new then out h = obeys_says o acts client (input_of request) new then out h
 

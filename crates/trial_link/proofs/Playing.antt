@@ -1,14 +1,20 @@
 -- How a talk goes on.
-use Rattle.std.proofs.Common.{◌≡◌, ◌∙◌, ℕ, ◌+◌, ◌-◌, ◌^◌, ◌<◌, ◌≤◌, ◌⊎◌, inl, inr, true, false, cond, ◌++◌, ◌∷◌, [], List, length, take, drop, min, nat_lt, ap, refl, sym, subst, arith}
+use Rattle.std.proofs.Common.{◌≡◌, ◌∙◌, ℕ, ◌+◌, ◌-◌, ◌^◌, ◌<◌, ◌≤◌, ◌⊎◌, inl, inr, true, false, cond, ◌++◌, ◌∷◌, [], List, length, take, drop, min, nat_lt, ap, append_assoc, refl, sym, subst, arith}
 use Rattle.std.proofs.lemmas.List.{drop-drop, length-drop, length-take-le, take-append-drop, take_all}
 use Rattle.std.proofs.lemmas.Bool.{ltb-true}
 use Rattle.std.proofs.lemmas.List.Sums.{sum_by-append}
 use Rattle.session_outside.specs.Talk.{Event, Heard, Ended, Wrote}
-use Rattle.trial_link.specs.Plays.{HasTold, Plays, ends, gave, gives, granted_in, hears, is_grant, is_silent, is_unasked, stops}
+use Rattle.trial_link.specs.Plays.{HasTold, Noted, Plays, ends, gave, gives, granted_in, hears, is_grant, is_silent, is_unasked, note_of, stops}
 use Rattle.trial_link.specs.Stages.{has_more, left_of, line_of, played_after, stage_after}
 use Rattle.trial_link.specs.declared.call.Call.{Call}
 use Rattle.trial_link.specs.declared.call.Stage.{Stage}
 use Rattle.trial_link.specs.declared.call.Stage.TheVariants.{Gives, Awaits, Over}
+
+-- what goes on by an event goes on behind the note
+pub noted_on : {A B : List Event → Type 0} (number rounds number' rounds' : ℕ) (e : Event) → number' ≡ number → rounds' ≡ rounds → ((talk : List Event) → A talk → B (talk ++ e ∷ [])) → (told : List Event) → Noted number rounds A told → Noted number' rounds' B (told ++ e ∷ [])
+noted_on number rounds number' rounds' e n r on told (inl h) = inl (on told h)
+noted_on number rounds number' rounds' e n r on told (inr h) =
+    inr (h.0 ++ e ∷ [], ap (λ l. l ++ e ∷ []) h.1 ∙ append_assoc (note_of number rounds) h.0 (e ∷ []) ∙ rw (n, r) refl, on h.0 h.2)
 
 -- one event more
 pub granted_snoc : (talk : List Event) (e : Event) → granted_in (talk ++ e ∷ []) ≡ granted_in talk + cond (is_grant e) 1 0

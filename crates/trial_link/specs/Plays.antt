@@ -1,5 +1,5 @@
 -- The talks that a trial's client can have had.
-use Rattle.std.specs.Prelude.{◌≡◌, ℕ, ◌-◌, ◌^◌, ◌<◌, min, Bool, true, false, nat_lt, List, [], ◌∷◌, ◌++◌, length, count_by}
+use Rattle.std.specs.Prelude.{◌≡◌, ◌⊎◌, ℕ, ◌-◌, ◌^◌, ◌<◌, min, Bool, true, false, nat_lt, List, [], ◌∷◌, ◌++◌, length, count_by}
 use Rattle.session_outside.specs.Talk.{Event, Heard, Silence, Ended, ReadFault, Wrote, WriteFault}
 use Rattle.trial_link.specs.Stages.{is_granted, left_of, line_of, played_after, stage_after}
 use Rattle.trial_link.specs.declared.call.Call.{Call}
@@ -55,10 +55,16 @@ granted_in talk = count_by is_grant talk
 abbrev pub HasTold : ℕ → ℕ → Stage → ℕ → ℕ → ℕ → List Event → Type 0
 HasTold number rounds stage given played grants talk = Plays number rounds stage (left_of number stage given) played talk × (grants ≡ min (granted_in talk) (2 ^ 64 - 1))
 
--- some client can have had this talk
-pub record IsTalk (talk : List Event) : Type 0 where
-  pub number : ℕ
-  pub rounds : ℕ
+-- the note of what a client was made with, its number and its rounds: a failed write of the two, which no client's talk has
+abbrev pub note_of : ℕ → ℕ → List Event
+note_of number rounds = WriteFault (number ∷ rounds ∷ []) ∷ []
+
+-- what stands for a talk stands for it behind that note too
+abbrev pub Noted : ℕ → ℕ → (List Event → Type 0) → List Event → Type 0
+Noted number rounds stands told = stands told ⊎ ((talk : List Event) × (told ≡ note_of number rounds ++ talk) × stands talk)
+
+-- the client of this number, of so many rounds, can have had this talk
+pub record IsTalk (number rounds : ℕ) (talk : List Event) : Type 0 where
   pub stage : Stage
   pub left : List ℕ
   pub played : ℕ

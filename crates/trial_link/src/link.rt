@@ -1,7 +1,7 @@
 //! The link that plays a client.
 ghost use Rattle.std.specs.Prelude.{◌≡◌, ◌-◌, ◌^◌, ◌<◌, ◌≤◌, ◌++◌, ◌∷◌, [], IfOk, List, true, length, min, nat_lt, string_bytes, take};
 ghost use Rattle.session_outside.specs.Talk.{Event, Follows, Heard, Wrote};
-ghost use Rattle.trial_link.specs.Plays.{HasTold, granted_in};
+ghost use Rattle.trial_link.specs.Plays.{HasTold, Noted, granted_in};
 ghost use Rattle.trial_link.specs.Stages.{goes_on, has_more, hello_text, line_of, played_after, stage_after};
 
 use crate::call::{Call, Stage, is_granted, stage_after};
@@ -14,8 +14,9 @@ use std::alloc::{AllocError, Global};
 /// of the feature `trial` until a reply begins with GRANTED, and CHECKIN; after the rounds QUIT, and then its end. A
 /// reply to a CHECKOUT that begins neither with GRANTED nor with NOSEAT is its end too, and so is a read before a reply
 /// has come. It never fails and is never Quiet. It keeps no list of its talk: it stands for every talk that a client of
-/// this number with these rounds can have had, as far as it has come, in which it was granted as often as it counted.
-/// The trial is this project's own.
+/// this number with these rounds can have had, as far as it has come, in which it was granted as often as it counted,
+/// and for each of these behind a note of its number and its rounds, so that no call changes them unseen. The trial is
+/// this project's own.
 #[derive(Drop)]
 pub struct TrialLink {
     /// The number of its client.
@@ -75,6 +76,7 @@ impl TrialLink {
         requires room { 0 < length buffer.old }
         ensures some { (0 < result) × (result ≤ length buffer.new) }
         ensures long { length buffer.new ≡ length buffer.old }
+        ensures client { (self.new.number ≡ self.old.number) × (self.new.rounds ≡ self.old.rounds) }
         ensures told { Follows (λ l told. HasTold l.number l.rounds l.stage l.given l.played l.grants told) self.old self.new (Heard (take result buffer.new) ∷ []) }
     {
         let rest = &self.line(call)[self.given..];
@@ -127,7 +129,7 @@ fn count_after(grants: u64, piece: &[u8]) -> u64
 }
 
 impl Link for TrialLink {
-    ghost tells = { λ l told. HasTold l.number l.rounds l.stage l.given l.played l.grants told };
+    ghost tells = { λ l told. Noted l.number l.rounds (HasTold l.number l.rounds l.stage l.given l.played l.grants) told };
 
     ghost faults = { λ _. 0 };
 

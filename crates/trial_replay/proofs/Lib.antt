@@ -1,5 +1,4 @@
 mod Counting
-mod Names
 mod Playing
 mod Readings
 mod Requests

@@ -1,2 +1,3 @@
+mod Granting
 mod TrialOffice
 mod Trying

@@ -1,5 +1,5 @@
 -- What follows once all clients have played.
-use Rattle.std.proofs.Common.{◌≡◌, ◌∙◌, ℕ, suc, zero, ◌+◌, ◌<◌, ◌++◌, ◌∷◌, [], List, All, Vec, Global, length, map, get_or, append_assoc, ap, refl, sym, subst, arith}
+use Rattle.std.proofs.Common.{◌≡◌, ◌∙◌, ℕ, suc, ◌+◌, ◌<◌, ◌++◌, ◌∷◌, [], List, All, Vec, Global, length, map, get_or, append_assoc, ap, refl, sym, subst, arith}
 use Rattle.std.proofs.lemmas.List.{append-nil, get_or-map, get_or_default, length-map, map-append}
 use Rattle.daemon_outside.specs.Sites.{IsNew, Kept}
 use Rattle.daemon_run.proofs.Joining.{IsNewcomer, choose, joins}
@@ -15,33 +15,38 @@ use Rattle.session.specs.Pass.{Gains}
 use Rattle.session.specs.Session.{setup_of}
 use Rattle.session.specs.Table.{Setup}
 use Rattle.session_outside.specs.Talk.{Event, Follows}
-use Rattle.trial_link.specs.Plays.{HasTold, IsTalk, opens}
-use Rattle.trial_link.specs.Stages.{left_of}
+use Rattle.trial_link.proofs.Notes.{noted_talk, starts_noted}
+use Rattle.trial_link.specs.Plays.{HasTold, IsTalk, Noted, note_of}
 use Rattle.trial_link.specs.declared.call.Call.TheVariants.{Hello}
 use Rattle.trial_link.specs.declared.call.Stage.{Stage}
 use Rattle.trial_link.specs.declared.call.Stage.TheVariants.{Gives}
 use Rattle.trial_link.specs.declared.link.TrialLink.{TrialLink}
 use Rattle.trial_run.specs.Closed.{HasClosed}
-use Rattle.trial_run.specs.Fresh.{IsFresh}
-use Rattle.trial_run.specs.Played.{AllPlayed, AreNumbered, Played, TellsTrial, counters_of}
-use Rattle.trial_run.specs.Tried.{IsPlayed, Tried, each_alone, kept_of}
+use Rattle.trial_run.specs.Fresh.{AreFresh, IsFresh}
+use Rattle.trial_run.specs.Held.{Held}
+use Rattle.trial_run.specs.Played.{AllPlayed, AreNumbered, Played, TellsTrial, counters_of, links_of}
+use Rattle.trial_run.specs.Tried.{IsPlayed, each_alone, kept_of}
 use Rattle.trial_run.specs.declared.player.Player.{Player}
 use Rattle.trial_run.specs.declared.player.Trial.{Trial}
 
--- a link that has told nothing stands for the empty talk
-fresh_told : (l : TrialLink) → IsFresh l → TellsTrial l []
-fresh_told l f =
-    let P : Stage → ℕ → ℕ → ℕ → Type 0 = λ s given played grants. HasTold l.number l.rounds s given played grants [] in
-    subst (λ s. P s l.given l.played l.grants) (sym f.stage)
-    (subst (λ n. P (Gives Hello) n l.played l.grants) (sym f.given)
-    (subst (λ n. P (Gives Hello) 0 n l.grants) (sym f.played)
-    (subst (λ n. P (Gives Hello) 0 0 n) (sym f.grants) (opens, refl))))
+-- a link as it is made stands for its note
+fresh_told : (number rounds : ℕ) (l : TrialLink) → IsFresh number rounds l → TellsTrial l (note_of number rounds)
+fresh_told number rounds l f =
+    let P : ℕ → ℕ → Stage → ℕ → ℕ → ℕ → Type 0 = λ n r s given played grants. Noted n r (HasTold n r s given played grants) (note_of number rounds) in
+    subst (λ n. P n l.rounds l.stage l.given l.played l.grants) (sym f.number_is)
+    (subst (λ n. P number n l.stage l.given l.played l.grants) (sym f.rounds_are)
+    (subst (λ s. P number rounds s l.given l.played l.grants) (sym f.stage)
+    (subst (λ n. P number rounds (Gives Hello) n l.played l.grants) (sym f.given)
+    (subst (λ n. P number rounds (Gives Hello) 0 n l.grants) (sym f.played)
+    (subst (λ n. P number rounds (Gives Hello) 0 0 n) (sym f.grants) (starts_noted number rounds))))))
 
--- and so its talk is one that a client can have had
-talk_told : (old new : TrialLink) (talk : List Event) → IsFresh old → Follows TellsTrial old new talk → IsTalk talk
-talk_told old new talk f h =
-    let told = h [] (fresh_told old f) in
-    record { number = new.number; rounds = new.rounds; stage = new.stage; left = left_of new.number new.stage new.given; played = new.played; plays = told.0 }
+-- and so its talk is one that its client can have had
+talk_told : (number rounds : ℕ) (old new : TrialLink) (talk : List Event) → IsFresh number rounds old → Follows TellsTrial old new talk → IsTalk number rounds talk
+talk_told number rounds old new talk f h = noted_talk number rounds new.number new.rounds new.stage new.given new.played new.grants talk (h (note_of number rounds) (fresh_told number rounds old f))
+
+-- the acts of one session alone
+pub alone_acts : (visits : List Visit) (p : ℕ) (v : Visit) → p < length visits → acts_in (get_or (each_alone visits) p []) ≡ (get_or visits p v).acts
+alone_acts visits p v l = ap acts_in (get_or-map (λ (x : Visit). x ∷ []) visits p v [] l) ∙ append-nil (get_or visits p v).acts
 
 module _ {D K B G : Type 0} where
   -- the counters of a worker
@@ -49,6 +54,17 @@ module _ {D K B G : Type 0} where
   counters_at ws i d v l =
       get_or-map (λ (p : Player). p.counters) (passes_of ws) i d.pass v (subst (λ n. i < n) (sym (length-map ws (λ (w : Worker Player D K B G). w.pass))) l)
       ∙ ap (λ (p : Player). p.counters) (get_or-map (λ (w : Worker Player D K B G). w.pass) ws i d d.pass l)
+
+  -- its link
+  link_at : (ws : List (Worker Player D K B G)) (i : ℕ) (d : Worker Player D K B G) (x : TrialLink) → i < length ws → get_or (links_of (passes_of ws)) i x ≡ (get_or ws i d).pass.link
+  link_at ws i d x l =
+      get_or-map (λ (p : Player). p.link) (passes_of ws) i d.pass x (subst (λ n. i < n) (sym (length-map ws (λ (w : Worker Player D K B G). w.pass))) l)
+      ∙ ap (λ (p : Player). p.link) (get_or-map (λ (w : Worker Player D K B G). w.pass) ws i d d.pass l)
+
+  fresh_link : (rounds : ℕ) (ws : List (Worker Player D K B G)) → AreFresh rounds (links_of (passes_of ws)) → (i : ℕ) (d : Worker Player D K B G) → i < length ws → IsFresh i rounds (get_or ws i d).pass.link
+  fresh_link rounds ws fresh i d l =
+      let m : i < length (links_of (passes_of ws)) = subst (λ n. i < n) (sym (length-map (passes_of ws) (λ (p : Player). p.link) ∙ length-map ws (λ (w : Worker Player D K B G). w.pass))) l in
+      subst (IsFresh i rounds) (link_at ws i d d.pass.link l) (fresh i d.pass.link m)
 
   pub counters_count : (ws : List (Worker Player D K B G)) → length (counters_of (passes_of ws)) ≡ length ws
   counters_count ws = length-map (passes_of ws) (λ (p : Player). p.counters) ∙ length-map ws (λ (w : Worker Player D K B G). w.pass)
@@ -71,7 +87,7 @@ module _ {D K B G : Type 0} where
 module _ {D K B G : Type 0} (office : View DeskView) (talks : D → List (List Event) → Type 0) (gave : K → List ℕ → Type 0) (faults quiets fails lent : D → ℕ) (tolls rings : B → ℕ)
     (olds news : List (Worker Player D K B G)) (long : length news ≡ length olds) (played : AllPlayed account_of office gave olds news)
     (unused : All (λ (w : Worker Player D K B G). IsNew talks gave faults quiets fails lent tolls rings w.post.door w.post.clock w.post.bell) olds)
-    (fresh : All (λ (w : Worker Player D K B G). IsFresh w.pass.link) olds) (dealt : AreDealt office.desks (counters_of (passes_of olds))) (some : 0 < length olds) where
+    (rounds : ℕ) (fresh : AreFresh rounds (links_of (passes_of olds))) (dealt : AreDealt office.desks (counters_of (passes_of olds))) (some : 0 < length olds) where
   one : Worker Player D K B G
   one = the_first olds some
 
@@ -90,20 +106,20 @@ module _ {D K B G : Type 0} (office : View DeskView) (talks : D → List (List E
       let v = (get_or olds i one).pass.counters in
       ap (λ (x : Vec Sitter Global). x.items) (sym (counters_at olds i one v l)) ∙ dealt i v (subst (λ n. i < n) (sym (counters_count olds)) l)
 
-  are_played : (i : ℕ) (v : Visit) → i < length olds → IsPlayed (setup_of account_of office (map (λ (desk : DeskView). newcomer desk i) office.desks)) (get_or chosen.0 i v)
+  are_played : (i : ℕ) (v : Visit) → i < length olds → IsPlayed i rounds (setup_of account_of office (map (λ (desk : DeskView). newcomer desk i) office.desks)) (get_or chosen.0 i v)
   are_played i v l =
       let c = chosen.2 i v l in
       let p = c.0 in
-      subst (λ (x : Visit). IsPlayed (setup_of account_of office (map (λ (desk : DeskView). newcomer desk i) office.desks)) x) c.1 (record {
+      subst (λ (x : Visit). IsPlayed i rounds (setup_of account_of office (map (λ (desk : DeskView). newcomer desk i) office.desks)) x) c.1 (record {
         is_session = subst (λ (cs : List Sitter). IsSession (setup_of account_of office cs) p.visit) (dealt_at i l) p.is_session;
-        talk = talk_told (get_or olds i one).pass.link (get_or news i one).pass.link (talk_of p.visit.acts) (fresh i one l) p.told;
+        talk = talk_told i rounds (get_or olds i one).pass.link (get_or news i one).pass.link (talk_of p.visit.acts) (fresh_link rounds olds fresh i one l) p.told;
       })
 
   alone_count : length (each_alone chosen.0) ≡ length olds
   alone_count = length-map chosen.0 (λ (v : Visit). v ∷ []) ∙ chosen.1
 
-  alone_acts : (p : ℕ) → p < length olds → acts_in (get_or (each_alone chosen.0) p []) ≡ (get_or chosen.0 p first).acts
-  alone_acts p l = ap acts_in (get_or-map (λ (v : Visit). v ∷ []) chosen.0 p first [] (subst (λ n. p < n) (sym chosen.1) l)) ∙ append-nil (get_or chosen.0 p first).acts
+  chosen_acts : (p : ℕ) → p < length olds → acts_in (get_or (each_alone chosen.0) p []) ≡ (get_or chosen.0 p first).acts
+  chosen_acts p l = alone_acts chosen.0 p first (subst (λ n. p < n) (sym chosen.1) l)
 
   newcomers : (d : DeskView) → 0 < length office.desks → (p : ℕ) (v : Vec Sitter Global) → p < length (each_alone chosen.0) → IsNewcomer (get_or office.desks 0 d) 0 p (get_or (counters_of (passes_of olds)) p v).items
   newcomers d below p v l =
@@ -119,7 +135,7 @@ module _ {D K B G : Type 0} (office : View DeskView) (talks : D → List (List E
   gained p v l =
       let m : p < length olds = subst (λ n. p < n) alone_count l in
       let c = chosen.2 p first m in
-      let acts = ap (λ (x : Visit). x.acts) c.1 ∙ sym (alone_acts p m) in
+      let acts = ap (λ (x : Visit). x.acts) c.1 ∙ sym (chosen_acts p m) in
       subst (λ (x : Vec Sitter Global). Gains account_of (acts_in (get_or (each_alone chosen.0) p [])) x.items (get_or (counters_of (passes_of news)) p v).items) (sym (counters_at olds p one v m))
       (subst (λ (x : Vec Sitter Global). Gains account_of (acts_in (get_or (each_alone chosen.0) p [])) (get_or olds p one).pass.counters.items x.items) (sym (counters_at news p one v (subst (λ n. p < n) (sym long) m)))
       (subst (λ as'. Gains account_of as' (get_or olds p one).pass.counters.items (get_or news p one).pass.counters.items) acts c.0.gains))
@@ -137,13 +153,13 @@ module _ {D K B G : Type 0} (office : View DeskView) (talks : D → List (List E
         moments_are = subst (λ (x : Visit). gave (get_or news i one).post.clock (moments_of x.acts)) c.1 (p.moments [] u.no_moments);
       }))
 
-  -- what the trial tells
-  pub tried : (base : ℕ) (d : DeskView) (trial : Trial) (keeps : List Kept → Type 0) → 0 < length office.desks
+  -- what was held
+  pub held : (base : ℕ) (d : DeskView) (trial : Trial) (keeps : List Kept → Type 0) → 0 < length office.desks
       → AreNumbered base olds
       → ((new : List Kept) → AreKept talks gave news new → keeps new)
       → HasClosed (get_or office.desks 0 d) (counters_of (passes_of news)) trial
-      → Tried (get_or office.desks 0 d) (λ p. setup_of account_of office (map (λ (desk : DeskView). newcomer desk p) office.desks)) (length olds) (λ sessions. keeps (kept_of base sessions)) trial
-  tried base d trial keeps below numbers keep closed = record {
+      → Held (get_or office.desks 0 d) (λ p. setup_of account_of office (map (λ (desk : DeskView). newcomer desk p) office.desks)) (length olds) rounds (λ sessions. keeps (kept_of base sessions)) trial
+  held base d trial keeps below numbers keep closed = record {
     sessions = chosen.0;
     history = closed.history;
     clients_are = chosen.1;
@@ -169,11 +185,6 @@ the_players {D} {K} {B} {G} Q ws h = λ k p l.
     let w = the_first ws (omega arith) in
     subst Q (sym (get_or-map (λ (x : Worker Player D K B G). x.pass) ws k w p m)) (h k w m)
 
--- and what holds of each of the clients holds of each worker's
-pub their_workers : {D K B G : Type 0} (Q : Player → Type 0) (ws : List (Worker Player D K B G)) → All Q (passes_of ws) → All (λ (w : Worker Player D K B G). Q w.pass) ws
-their_workers {D} {K} {B} {G} Q ws h = λ k w l.
-    subst Q (get_or-map (λ (x : Worker Player D K B G). x.pass) ws k w w.pass l) (h k w.pass (subst (λ n. k < n) (sym (length-map ws (λ (x : Worker Player D K B G). x.pass))) l))
-
 -- one more client's counters come behind those before it
 pub counters_behind : (start old new : List (Vec Sitter Global)) (players : List Player) (p : Player) → new ≡ old ++ p.counters ∷ [] → old ≡ start ++ counters_of players → new ≡ start ++ counters_of (players ++ p ∷ [])
 counters_behind start old new players p e h =
@@ -185,10 +196,6 @@ dealt_each desks ws dealt k d l =
     let v = (get_or ws k d).pass.counters in
     ap (λ (x : Vec Sitter Global). x.items) (sym (counters_at ws k d v l)) ∙ dealt k v (subst (λ n. k < n) (sym (counters_count ws)) l)
 
--- what holds of one holds of each of a list of it alone
-pub all_one : {X : Type 0} (P : X → Type 0) (x : X) → P x → All P (x ∷ [])
-all_one P x h = elim [ zero ↦ λ d l. h | suc k ↦ λ d l. absurd (omega arith) ]
-
 -- what was dealt to a client
 pub dealt_player : (desks : List DeskView) (players : List Player) → AreDealt desks (counters_of players) → (k : ℕ) (d : Player) → k < length players → (get_or players k d).counters.items ≡ map (λ (desk : DeskView). newcomer desk k) desks
 dealt_player desks players dealt k d l =
@@ -196,9 +203,9 @@ dealt_player desks players dealt k d l =
     ap (λ (x : Vec Sitter Global). x.items) (sym (get_or-map (λ (p : Player). p.counters) players k d v l))
     ∙ dealt k v (subst (λ n. k < n) (sym (length-map players (λ (p : Player). p.counters))) l)
 
--- a trial that the site keeps otherwise
-pub tried_kept : (desk : DeskView) (setup : ℕ → Setup) (n m : ℕ) (kept more : List Visit → Type 0) (trial : Trial) → n ≡ m → ((sessions : List Visit) → kept sessions → more sessions) → Tried desk setup n kept trial → Tried desk setup m more trial
-tried_kept desk setup n m kept more trial e h t = subst (λ k. Tried desk setup k more trial) e (record {
+-- what the site keeps otherwise
+pub held_kept : (desk : DeskView) (setup : ℕ → Setup) (n m rounds : ℕ) (kept more : List Visit → Type 0) (trial : Trial) → n ≡ m → ((sessions : List Visit) → kept sessions → more sessions) → Held desk setup n rounds kept trial → Held desk setup m rounds more trial
+held_kept desk setup n m rounds kept more trial e h t = subst (λ k. Held desk setup k rounds more trial) e (record {
   sessions = t.sessions;
   history = t.history;
   clients_are = t.clients_are;

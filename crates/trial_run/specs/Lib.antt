@@ -1,4 +1,5 @@
 pub mod Closed
 pub mod Fresh
+pub mod Held
 pub mod Played
 pub mod Tried

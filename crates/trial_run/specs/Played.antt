@@ -10,13 +10,13 @@ use Rattle.session.specs.Acts.{moments_of, talk_of}
 use Rattle.session.specs.Pass.{Gains}
 use Rattle.session.specs.Session.{setup_of}
 use Rattle.session_outside.specs.Talk.{Event, Follows}
-use Rattle.trial_link.specs.Plays.{HasTold}
+use Rattle.trial_link.specs.Plays.{HasTold, Noted}
 use Rattle.trial_link.specs.declared.link.TrialLink.{TrialLink}
 use Rattle.trial_run.specs.declared.player.Player.{Player}
 
--- the link stands for this talk
+-- what a link tells
 abbrev pub TellsTrial : TrialLink → List Event → Type 0
-TellsTrial l told = HasTold l.number l.rounds l.stage l.given l.played l.grants told
+TellsTrial l told = Noted l.number l.rounds (HasTold l.number l.rounds l.stage l.given l.played l.grants) told
 
 module _ {E D K B G : Type 0} (account : Sitter → Account) (office : View E) (gave : K → List ℕ → Type 0) where
   -- it had one session, and its post's door stayed as it was
@@ -36,6 +36,10 @@ module _ {E D K B G : Type 0} (account : Sitter → Account) (office : View E) (
 -- the counters of each
 abbrev pub counters_of : List Player → List (Vec Sitter Global)
 counters_of players = map (λ (p : Player). p.counters) players
+
+-- the link of each
+abbrev pub links_of : List Player → List TrialLink
+links_of players = map (λ (p : Player). p.link) players
 
 -- their posts are numbered from here, in order
 abbrev pub AreNumbered : {D K B G : Type 0} → ℕ → List (Worker Player D K B G) → Type 0

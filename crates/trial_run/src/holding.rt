@@ -8,10 +8,11 @@ ghost use Rattle.licence_office.specs.Logs.{AreLogsOf};
 ghost use Rattle.licence_office.specs.Offices.{AreAt, AreDealt};
 ghost use Rattle.session.specs.Session.{setup_of};
 ghost use Rattle.session_outside.specs.Talk.{Follows, HasRisen};
-ghost use Rattle.trial_run.specs.Played.{AreNumbered, counters_of};
-ghost use Rattle.trial_run.specs.Tried.{Tried, kept_of};
+ghost use Rattle.trial_run.specs.Played.{AreNumbered, counters_of, links_of};
+ghost use Rattle.trial_run.specs.Tried.{kept_of};
 ghost use Rattle.trial_run.specs.Closed.{HasClosed};
-ghost use Rattle.trial_run.specs.Fresh.{IsFresh};
+ghost use Rattle.trial_run.specs.Fresh.{AreFresh};
+ghost use Rattle.trial_run.specs.Held.{Held};
 
 use crate::player::{Player, Trial};
 use crate::playing::play_all;
@@ -87,14 +88,13 @@ fn hold_all<R: Threads + Wait + Sync, T: Site>(
     requires sets { HasSets office.view }
     requires dealt { AreDealt office.view.desks (counters_of (passes_of workers.items)) }
     requires unused { All (λ w. IsNew T.Door.talks T.Clock.gave T.Door.faults T.Door.quiets T.Door.fails T.Door.lent T.Bell.tolls T.Bell.rings w.post.door w.post.clock w.post.bell) workers.items }
-    requires fresh { All (λ w. IsFresh w.pass.link) workers.items }
     requires logs { AreLogsOf logs office }
     requires empty { (players.items ≡ []) × (passes.items ≡ []) }
     requires room { (vec_len workers ≤ vec_capacity players) × (vec_len workers ≤ vec_capacity passes) }
     requires posted { vec_len workers ≤ T.posted site.old }
     ensures posted { T.posted site.new + vec_len workers ≡ T.posted site.old }
-    ensures held { (base : ℕ) (d : DeskView) → AreNumbered base workers.items
-        → Tried (get_or office.view.desks 0 d) (λ p. setup_of account_of office.view (map (λ desk. newcomer desk p) office.view.desks)) (length workers.items)
+    ensures held { (base rounds : ℕ) (d : DeskView) → AreNumbered base workers.items → AreFresh rounds (links_of (passes_of workers.items))
+        → Held (get_or office.view.desks 0 d) (λ p. setup_of account_of office.view (map (λ desk. newcomer desk p) office.view.desks)) (length workers.items) rounds
         (λ sessions. Follows T.keeps site.old site.new (kept_of base sessions)) result }
 {
     let view = office.view();
@@ -124,7 +124,6 @@ pub(crate) fn hold<R: Threads + Wait + Sync, T: Site>(
     requires one { length office.view.pools ≡ 1 }
     requires sets { HasSets office.view }
     requires dealt { AreDealt office.view.desks (counters_of players.items) }
-    requires fresh { All (λ w. IsFresh w.link) players.items }
     requires logs { AreLogsOf logs office }
     requires empty { (workers.items ≡ []) × (passes.items ≡ []) }
     requires room { (vec_len players ≤ vec_capacity workers) × (vec_len players ≤ vec_capacity passes) }
@@ -132,7 +131,8 @@ pub(crate) fn hold<R: Threads + Wait + Sync, T: Site>(
     ensures failed { OnErr result (HasRisen (T.faults site.old) (T.faults site.new)) }
     ensures unheld { OnErr result ((posts : ℕ) × Follows T.keeps site.old site.new (kept_from (T.made site.old) (no_sessions posts))) }
     ensures paired { length office.view.desks ≡ length office.view.pools }
-    ensures held { IfOk result (λ trial. (d : DeskView) → Tried (get_or office.view.desks 0 d) (λ p. setup_of account_of office.view (map (λ desk. newcomer desk p) office.view.desks)) (length players.items)
+    ensures held { IfOk result (λ trial. (rounds : ℕ) (d : DeskView) → AreFresh rounds (links_of players.items)
+        → Held (get_or office.view.desks 0 d) (λ p. setup_of account_of office.view (map (λ desk. newcomer desk p) office.view.desks)) (length players.items) rounds
         (λ sessions. Follows T.keeps site.old site.new (kept_of (T.made site.old) sessions)) trial) }
 {
     let view = office.view();

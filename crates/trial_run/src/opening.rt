@@ -1,5 +1,5 @@
 //! A whole trial.
-ghost use Rattle.std.specs.Prelude.{◌≡◌, ◌<◌, ◌≤◌, ◌∷◌, ℕ, [], All, Err, IfOk, get_or, length, vec_capacity, vec_len};
+ghost use Rattle.std.specs.Prelude.{◌≡◌, ◌<◌, ◌≤◌, ◌∷◌, ℕ, [], Err, IfOk, get_or, length, vec_capacity, vec_len};
 ghost use Rattle.lic_types.specs.declared.limits.TheConstants.{LICENCE_LIMIT, PARTY_LIMIT};
 ghost use Rattle.daemon_run.specs.Gives.{kept_from, no_sessions};
 ghost use Rattle.feature_desk.specs.Sitters.{DeskView};
@@ -7,9 +7,9 @@ ghost use Rattle.licence_office.specs.Logs.{AreLogsOf};
 ghost use Rattle.licence_office.specs.Offices.{AreDealt, IsDeskFor};
 ghost use Rattle.session_outside.specs.Talk.{Follows, HasRisen};
 ghost use Rattle.trial_terms.specs.Terms.{no_options, trial_pool};
-ghost use Rattle.trial_run.specs.Fresh.{IsFresh};
-ghost use Rattle.trial_run.specs.Played.{counters_of};
-ghost use Rattle.trial_run.specs.Tried.{Tried, kept_of, trial_setup};
+ghost use Rattle.trial_run.specs.Fresh.{AreFresh};
+ghost use Rattle.trial_run.specs.Played.{counters_of, links_of};
+ghost use Rattle.trial_run.specs.Tried.{Tried, kept_of};
 
 use crate::failure::TrialFailed;
 use crate::holding::hold;
@@ -27,7 +27,7 @@ use trial_terms::{trial_licence, trial_options};
 fn links(alloc: Global, clients: u32, rounds: u32) -> Result<Vec<TrialLink>, AllocError>
     requires { 0 < rounds }
     ensures count { IfOk result (λ links. vec_len links ≡ clients) }
-    ensures fresh { IfOk result (λ links. All IsFresh links.items) }
+    ensures fresh { IfOk result (λ links. AreFresh rounds links.items) }
 {
     let mut links = Vec::with_capacity(alloc, clients as usize)?;
     for number in 0..clients {
@@ -40,11 +40,10 @@ fn links(alloc: Global, clients: u32, rounds: u32) -> Result<Vec<TrialLink>, All
 /// Gives each client its party's counters and its link, in order. It takes no memory.
 fn seat(passes: &mut Vec<OfficePass>, mut links: Vec<TrialLink>, players: &mut Vec<Player>)
     requires same { vec_len passes.old ≡ vec_len links }
-    requires fresh { All IsFresh links.items }
     requires empty { players.old.items ≡ [] }
     requires room { vec_len passes.old ≤ vec_capacity players.old }
     ensures counters { counters_of players.new.items ≡ passes.old.items }
-    ensures fresh { All (λ w. IsFresh w.link) players.new.items }
+    ensures links { links_of players.new.items ≡ links.items }
     ensures count { vec_len players.new ≡ vec_len passes.old }
     ensures empty { passes.new.items ≡ [] }
     ensures room { vec_capacity passes.new ≡ vec_capacity passes.old }
@@ -83,7 +82,7 @@ fn trial_office<R: Wait>(
 /// for so many rounds, 1 to 10,000. Each client has one session over a link in memory, all of them at once, each in a
 /// thread of its own where one can be made, at a post of the site of its own, of which the clock, the gate and the bell
 /// are used. It tells how many replies brought a seat, and how often the cards of the seats were used, by the close of
-/// the office.
+/// the office: once for each round of each client.
 ///
 /// `NoMemory` comes before any post is made, `SiteFault` only where the site had no post for a client, and before any
 /// session. Every post is given back, however it ends. The trial is this project's own.
@@ -102,8 +101,9 @@ pub fn try_out<R: Threads + Wait + Sync, T: Site>(
     ensures posted { T.posted site.new ≡ T.posted site.old }
     ensures no_memory { result ≡ Err TrialFailed.NoMemory → site.new ≡ site.old }
     ensures site_fault { result ≡ Err TrialFailed.SiteFault → HasRisen (T.faults site.old) (T.faults site.new) × ((posts : ℕ) × Follows T.keeps site.old site.new (kept_from (T.made site.old) (no_sessions posts))) }
-    // There is one history, a run of the pool's rules, of which each client's one session is the part of its party.
-    ensures tried { IfOk result (λ trial. (desk : DeskView) × IsDeskFor (no_options ∷ []) clients (trial_pool seats) desk × Tried desk (trial_setup seats) clients
+    // There is one history, a run of the pool's rules, of which each client's one session is the part of its party, and
+    // which grants a seat once for each round of each client.
+    ensures tried { IfOk result (λ trial. (desk : DeskView) × IsDeskFor (no_options ∷ []) clients (trial_pool seats) desk × Tried desk seats clients rounds
         (λ sessions. Follows T.keeps site.old site.new (kept_of (T.made site.old) sessions)) trial) }
 {
     let room = clients as usize;

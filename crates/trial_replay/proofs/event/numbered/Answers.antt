@@ -1,6 +1,6 @@
 use Rattle.std.proofs.Common.{◌≡◌, ◌∷◌, ◌∙◌, ap, decimal, take, refl, arith, rules}
 use Rattle.lic_types.specs.Name.{name_of}
-use Rattle.trial_replay.proofs.Names.{numbered_name}
+use Rattle.trial_terms.proofs.Names.{numbered_name}
 use Rattle.trial_replay.proofs.event.numbered.Goals as goal
 
 pub unwrap-requires : goal.unwrap-requires

@@ -9,11 +9,11 @@ use Rattle.daemon_run.specs.declared.worker.Worker.{Worker}
 use Rattle.daemon_run.proofs.Dealing.{all_parts, dealt_at}
 use Rattle.daemon_run.proofs.Splitting.{whole_in}
 use Rattle.daemon_run.proofs.Unserved.{all_unused}
-use Rattle.trial_run.specs.Fresh.{IsFresh}
-use Rattle.trial_run.specs.Played.{counters_of}
+use Rattle.trial_run.specs.Fresh.{AreFresh}
+use Rattle.trial_run.specs.Played.{counters_of, links_of}
 use Rattle.trial_run.specs.Tried.{kept_of}
 use Rattle.trial_run.specs.declared.player.Player.{Player}
-use Rattle.trial_run.proofs.Trying.{dealt_player, their_workers, tried_kept}
+use Rattle.trial_run.proofs.Trying.{dealt_player, held_kept}
 use Rattle.trial_run.proofs.holding.hold.Goals as goal
 
 pub give_back-requires-clause-lent : goal.give_back-requires-clause-lent
@@ -33,24 +33,19 @@ hold_all-requires-clause-dealt g c κs within =
 pub hold_all-requires-clause-unused : goal.hold_all-requires-clause-unused
 hold_all-requires-clause-unused g c κs within = λ k d l. (c.post_all.ensures.started k d l).unused
 
-pub hold_all-requires-clause-fresh : goal.hold_all-requires-clause-fresh
-hold_all-requires-clause-fresh g c κs within =
-    their_workers (λ (p : Player). IsFresh p.link) c.post_all.new.workers.items
-    (subst (λ ps. All (λ (p : Player). IsFresh p.link) ps) (sym (whole_in (passes_of c.post_all.new.workers.items) c.post_all.new.passes.items c.args.players.items c.post_all.ensures.passes c.in-Ok.ensures.all)) c.requires.fresh)
-
 pub returns-clause-held : goal.returns-clause-held
-returns-clause-held g c = λ d.
+returns-clause-held g c = λ rounds d fresh.
     let o = c.args.office.view in
     let base = g.T.Site.made c.args.site.now in
     let ws = c.post_all.new.workers.items in
     let whole = whole_in (passes_of ws) c.post_all.new.passes.items c.args.players.items c.post_all.ensures.passes c.in-Ok.ensures.all in
-    tried_kept (get_or o.desks 0 d) (λ p. setup_of account_of o (map (λ (desk : DeskView). newcomer desk p) o.desks)) (length ws) (length c.args.players.items)
+    held_kept (get_or o.desks 0 d) (λ p. setup_of account_of o (map (λ (desk : DeskView). newcomer desk p) o.desks)) (length ws) (length c.args.players.items) rounds
     (λ sessions. Follows g.T.Site.keeps c.post_all.new.site c.hold_all.new.site (kept_of base sessions))
     (λ sessions. Follows g.T.Site.keeps c.args.site.now c.hold_all.new.site (kept_of base sessions))
     c.hold_all.result
     (sym (length-map ws (λ (w : Worker Player g.row.T-Door.Denot g.row.T-Clock.Denot g.row.T-Bell.Denot g.row.T-Gate.Denot). w.pass)) ∙ ap length whole)
     (λ sessions k. λ told t. k told (subst (λ ts. g.T.Site.keeps c.post_all.new.site ts) (append-nil told) (c.post_all.ensures.keeps told t)))
-    (c.hold_all.ensures.held base d (λ i e l. (c.post_all.ensures.started i e l).number_is))
+    (c.hold_all.ensures.held base rounds d (λ i e l. (c.post_all.ensures.started i e l).number_is) (subst (λ ps. AreFresh rounds (links_of ps)) (sym whole) fresh))
 
 pub returns-in_default-clause-unheld : goal.returns-in_default-clause-unheld
 returns-in_default-clause-unheld g c =

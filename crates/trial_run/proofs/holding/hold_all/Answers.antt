@@ -9,7 +9,7 @@ use Rattle.daemon_run.proofs.Dealing.{at_end, dealt_idle, dealt_of}
 use Rattle.trial_run.specs.Closed.{HasClosed}
 use Rattle.trial_run.specs.Played.{AllPlayed, counters_of}
 use Rattle.trial_run.specs.declared.player.Player.{Player}
-use Rattle.trial_run.proofs.Trying.{dealt_each, the_players, tried}
+use Rattle.trial_run.proofs.Trying.{dealt_each, held, the_players}
 use Rattle.trial_run.proofs.holding.hold_all.Goals as goal
 
 pub play_all-requires-clause-of : goal.play_all-requires-clause-of
@@ -46,7 +46,7 @@ close-requires-clause-ready g c =
     (λ k d l. at_end o (get_or ws k d).pass.counters.items paired (subst (λ (v : View DeskView). AreOf IsOf account_of (get_or ws k d).pass.counters.items v) c.view-view.ensures (c.play_all.ensures.of k d l)) (c.play_all.ensures.idle k d l)))
 
 pub returns-clause-held : goal.returns-clause-held
-returns-clause-held g c = λ base d numbers.
+returns-clause-held g c = λ base rounds d numbers fresh.
     let o = c.args.office.view in
     let ws = c.play_all.new.workers.items in
     let paired = subst (λ (v : View DeskView). length v.desks ≡ length v.pools) c.view-view.ensures c.pair.ensures in
@@ -54,5 +54,5 @@ returns-clause-held g c = λ base d numbers.
     let e : c.give_back.new.passes.items ≡ passes_of ws = c.give_back.ensures.passes ∙ ap (λ ps. ps ++ passes_of ws) c.requires.empty.0 in
     let closed = subst (λ (ps : List Player). HasClosed (get_or o.desks 0 d) (counters_of ps) c.close.result) e (c.close.ensures d) in
     let below : 0 < length o.desks = let n = paired ∙ c.requires.one in omega arith in
-    tried o g.T.Door.Door.talks g.T.Clock.Clock.gave g.T.Door.Door.faults g.T.Door.Door.quiets g.T.Door.Door.fails g.T.Door.Door.lent g.T.Bell.Bell.tolls g.T.Bell.Bell.rings c.args.workers.items ws c.play_all.ensures.len played c.requires.unused c.requires.fresh c.requires.dealt (omega arith)
+    held o g.T.Door.Door.talks g.T.Clock.Clock.gave g.T.Door.Door.faults g.T.Door.Door.quiets g.T.Door.Door.fails g.T.Door.Door.lent g.T.Bell.Bell.tolls g.T.Bell.Bell.rings c.args.workers.items ws c.play_all.ensures.len played c.requires.unused rounds fresh c.requires.dealt (omega arith)
     base d c.close.result (λ ks. Follows g.T.Site.keeps c.args.site.now c.give_back.new.site ks) below numbers (λ new a. λ told t. c.give_back.ensures.keeps told new t a) closed
