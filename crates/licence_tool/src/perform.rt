@@ -189,7 +189,7 @@ fn write_audit<O: Sink>(
             Ok(()) => Err(Status::AuditNo(line)),
             Err(_) => Err(Status::WriteFault),
         },
-        Err(_) => Err(Status::NoMemory),
+        Err(NoMemory) => Err(Status::NoMemory),
     }
 }
 

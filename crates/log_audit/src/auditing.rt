@@ -1,9 +1,8 @@
 //! Whole logs.
-ghost use Rattle.std.specs.Prelude.{◌≡◌, ◌<◌, ◌≤◌, ◌^◌, MatchResult, length, map, true};
+ghost use Rattle.std.specs.Prelude.{◌≡◌, ◌<◌, ◌≤◌, ◌^◌, IfOk, length, map, true};
 ghost use Rattle.std.specs.List.{list_all};
 ghost use Rattle.log_audit.specs.Audited.{IsAudited, IsShown, sets_of};
 ghost use Rattle.log_audit.specs.Log.{is_fit, log_of};
-ghost use Rattle.log_audit.specs.declared.fault.AuditFault.TheVariants.{NoMemory as Want};
 
 use crate::audited::Audited;
 use crate::fault::AuditFault;
@@ -12,6 +11,7 @@ use crate::log::{Numbered, read_log};
 use crate::making::make_desks;
 use crate::sums::sum_up;
 use feature_lines::Licence;
+use no_memory::NoMemory;
 use options_text::Options;
 use std::alloc::Global;
 
@@ -23,17 +23,18 @@ use std::alloc::Global;
 /// - `No` exactly where it is none, with the first line that shows it. Its place, moment and reply are those that hold
 ///   there, also where the line's own are wrong. In the place of a request for a rule set that there isn't, a look of
 ///   its party holds.
-/// - `NoMemory` where there is too little memory to hold the books or the sums. There is no other fault.
+///
+/// It fails where there is too little memory to hold the books or the sums.
 pub fn audit_entries(
     alloc: Global,
     licence: &Licence,
     options: &[Options],
     log: &[Numbered],
-) -> Result<Audited, AuditFault>
+) -> Result<Audited, NoMemory>
     requires some { 0 < length options.now }
     requires few { length options.now ≤ 4 }
     requires fit { list_all (is_fit (length licence.now.pools)) log.now ≡ true }
-    ensures { MatchResult result (IsShown (map (sets_of options.now) licence.now.pools) log.now) (λ fault. fault ≡ Want) }
+    ensures { IfOk result (IsShown (map (sets_of options.now) licence.now.pools) log.now) }
 {
     let mut made = make_desks(alloc, licence.pools(), options)?;
     let desks = made.as_mut_slice();
@@ -69,5 +70,5 @@ pub fn audit(
     ensures { IsAudited (map (sets_of options.now) licence.now.pools) (log_of (length licence.now.pools) log.now) result }
 {
     let log = read_log(alloc, licence.pools().len(), log)?;
-    audit_entries(alloc, licence, options, log.as_slice())
+    Ok(audit_entries(alloc, licence, options, log.as_slice())?)
 }

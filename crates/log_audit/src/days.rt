@@ -4,7 +4,7 @@ ghost use Rattle.log_audit.specs.Running.{HasRoom, days_with_entry, over_at, sum
 ghost use Rattle.log_audit.specs.Times.{seat_seconds};
 
 use crate::day_sum::{DaySum, Stretch, day_of};
-use lic_types::NoMemory;
+use no_memory::NoMemory;
 use options_machine::Reply;
 use std::alloc::Global;
 use std::marker::Model;

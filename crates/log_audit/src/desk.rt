@@ -7,7 +7,7 @@ ghost use Rattle.log_audit.specs.Desks.{IsExpected, IsNext, IsSmall, Says, moved
 use crate::day_sum::Stretch;
 use crate::days::Days;
 use audit_log::Logged;
-use lic_types::NoMemory;
+use no_memory::NoMemory;
 use options_machine::{Kind, Reply, Request};
 use policy::{PlainBook, Rows};
 

@@ -1,6 +1,5 @@
-use lic_types::NoMemory;
+use no_memory::NoMemory;
 use script_words::ScriptFault;
-use std::alloc::AllocFailed;
 use thiserror::Error;
 
 /// Why a log isn't audited.
@@ -32,17 +31,6 @@ impl From<NoMemory> for AuditFault {
     ghost from_gives = { λ _ made. made ≡ Want };
 
     fn from(_want: NoMemory) -> AuditFault {
-        AuditFault::NoMemory
-    }
-}
-
-impl<T: Drop> From<AllocFailed<T>> for AuditFault {
-    ghost use Rattle.std.specs.Prelude.{◌≡◌};
-    ghost use Rattle.log_audit.specs.declared.fault.AuditFault.TheVariants.{NoMemory as Want};
-
-    ghost from_gives = { λ _ made. made ≡ Want };
-
-    fn from(_failed: AllocFailed<T>) -> AuditFault {
         AuditFault::NoMemory
     }
 }

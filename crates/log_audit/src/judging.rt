@@ -9,7 +9,7 @@ ghost use Rattle.log_audit.specs.Usage.{usage};
 
 use crate::desk::{Desk, Expected};
 use crate::log::Numbered;
-use lic_types::NoMemory;
+use no_memory::NoMemory;
 
 /// The first line that shows that a log is no run.
 #[derive(Clone, Copy)]

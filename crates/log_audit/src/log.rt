@@ -1,15 +1,15 @@
 //! The entries of a log, read from its lines.
-ghost use Rattle.std.specs.Prelude.{◌≡◌, ◌++◌, ◌<◌, ◌^◌, IfErr, IfOk, IfSome, OnOk, Ok, length, true};
+ghost use Rattle.std.specs.Prelude.{◌≡◌, ◌++◌, ◌<◌, ◌^◌, IfOk, IfSome, OnOk, length, true};
 ghost use Rattle.std.specs.List.{list_all};
 ghost use Rattle.std.specs.Option.{option_to_list};
 ghost use Rattle.lic_text.specs.LinesLeft.{item_view};
 ghost use Rattle.lic_text.specs.Reads.{Reads};
 ghost use Rattle.log_audit.specs.Log.{fault_told, is_fit, log_of, read_of};
-ghost use Rattle.log_audit.specs.declared.fault.AuditFault.TheVariants.{NoMemory as Want};
 
 use crate::fault::AuditFault;
 use audit_log::{Logged, is_summary, read_entry};
 use lic_text::{Line, TextFault, lines};
+use no_memory::NoMemory;
 use script_words::{ScriptFault, ScriptWord};
 use std::alloc::Global;
 
@@ -47,9 +47,8 @@ fn read_line(
     }))
 }
 
-fn push_some(log: &mut Vec<Numbered>, found: Option<Numbered>) -> Result<(), AuditFault>
-    ensures ok { OnOk result (log.new.items ≡ log.old.items ++ option_to_list found) }
-    ensures err { IfErr result (λ fault. fault ≡ Want) }
+fn push_some(log: &mut Vec<Numbered>, found: Option<Numbered>) -> Result<(), NoMemory>
+    ensures { OnOk result (log.new.items ≡ log.old.items ++ option_to_list found) }
 {
     if let Some(entry) = found {
         log.push(entry)?;

@@ -1,15 +1,13 @@
 //! The sums of a log.
-ghost use Rattle.std.specs.Prelude.{◌≡◌, IfErr, IfOk, List, flat_map, length};
+ghost use Rattle.std.specs.Prelude.{◌≡◌, IfOk, flat_map, length};
 ghost use Rattle.log_audit.specs.Desks.{days_so_far};
 ghost use Rattle.log_audit.specs.Summed.{AreUsers};
-ghost use Rattle.log_audit.specs.declared.fault.AuditFault.TheVariants.{NoMemory as Want};
 
 use crate::day_sum::DaySum;
 use crate::desk::Desk;
-use crate::fault::AuditFault;
 use crate::log::Numbered;
 use crate::users::{UserSum, users_of};
-use lic_types::NoMemory;
+use no_memory::NoMemory;
 use std::alloc::Global;
 use std::marker::Model;
 
@@ -65,11 +63,10 @@ fn days_of(alloc: Global, desks: &[Desk]) -> Result<Vec<DaySum>, NoMemory>
 }
 
 /// The sums of the entries of a log, which these desks made.
-pub(crate) fn sum_up(alloc: Global, desks: &[Desk], log: &[Numbered]) -> Result<Sums, AuditFault>
+pub(crate) fn sum_up(alloc: Global, desks: &[Desk], log: &[Numbered]) -> Result<Sums, NoMemory>
     ensures entries { IfOk result (λ sums. sums.entries ≡ length log.now) }
     ensures users { IfOk result (λ sums. AreUsers log.now sums.users) }
     ensures days { IfOk result (λ sums. sums.days ≡ flat_map days_so_far desks.now) }
-    ensures err { IfErr result (λ fault. fault ≡ Want) }
 {
     let users = users_of(alloc, log)?;
     let days = days_of(alloc, desks)?;

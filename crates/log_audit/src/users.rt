@@ -1,15 +1,14 @@
 //! How often each user of a log was granted a seat.
-ghost use Rattle.std.specs.Prelude.{◌≡◌, ℕ, ◌+◌, ◌<◌, ◌^◌, List, IfErr, IfOk, OnOk};
+ghost use Rattle.std.specs.Prelude.{◌≡◌, ℕ, ◌+◌, ◌<◌, ◌^◌, List, IfOk, OnOk};
 ghost use Rattle.std.specs.BTreeMap.{insert_entry};
 ghost use Rattle.std.specs.List.{AllByRecursion};
 ghost use Rattle.log_audit.specs.Grants.{CountsOne, counted_of, name_order};
 ghost use Rattle.log_audit.specs.Replies.{is_grant};
 ghost use Rattle.log_audit.specs.Summed.{AreUsers};
-ghost use Rattle.log_audit.specs.declared.fault.AuditFault.TheVariants.{NoMemory as Want};
 
-use crate::fault::AuditFault;
 use crate::log::Numbered;
 use lic_types::Name;
+use no_memory::NoMemory;
 use options_machine::{Entry, Reply};
 use std::alloc::Global;
 use std::collections::BTreeMap;
@@ -38,10 +37,9 @@ fn counted(counts: &BTreeMap<Name, u64>, user: &Name) -> u64
 }
 
 /// Counts one grant more of a user.
-fn count_one(counts: &mut BTreeMap<Name, u64>, user: &Name) -> Result<(), AuditFault>
+fn count_one(counts: &mut BTreeMap<Name, u64>, user: &Name) -> Result<(), NoMemory>
     requires room { counted_of user.now counts.old.entries + 1 < 2 ^ 64 }
-    ensures ok { OnOk result (counts.new.entries ≡ insert_entry name_order counts.old.entries user.now (counted_of user.now counts.old.entries + 1)) }
-    ensures err { IfErr result (λ fault. fault ≡ Want) }
+    ensures { OnOk result (counts.new.entries ≡ insert_entry name_order counts.old.entries user.now (counted_of user.now counts.old.entries + 1)) }
 {
     let grants = counted(counts, user) + 1;
     counts.insert(*user, grants)?;
@@ -49,11 +47,10 @@ fn count_one(counts: &mut BTreeMap<Name, u64>, user: &Name) -> Result<(), AuditF
 }
 
 /// Counts the grant of an entry, where it is one.
-fn count_entry(counts: &mut BTreeMap<Name, u64>, entry: &Entry) -> Result<(), AuditFault>
+fn count_entry(counts: &mut BTreeMap<Name, u64>, entry: &Entry) -> Result<(), NoMemory>
     requires room { (name : List ℕ) → counted_of name counts.old.entries + 1 < 2 ^ 64 }
     requires some { AllByRecursion (λ (listed : List ℕ × ℕ). 0 < listed.1) counts.old.entries }
-    ensures ok { OnOk result (CountsOne counts.old.entries counts.new.entries entry.now) }
-    ensures err { IfErr result (λ fault. fault ≡ Want) }
+    ensures { OnOk result (CountsOne counts.old.entries counts.new.entries entry.now) }
 {
     if is_grant(&entry.reply) {
         count_one(counts, &entry.request.client.user)?;
@@ -62,9 +59,8 @@ fn count_entry(counts: &mut BTreeMap<Name, u64>, entry: &Entry) -> Result<(), Au
 }
 
 /// The users that were granted a seat, in the order of the bytes of their names.
-pub(crate) fn users_of(alloc: Global, log: &[Numbered]) -> Result<Vec<UserSum>, AuditFault>
-    ensures users { IfOk result (λ users. AreUsers log.now users.items) }
-    ensures err { IfErr result (λ fault. fault ≡ Want) }
+pub(crate) fn users_of(alloc: Global, log: &[Numbered]) -> Result<Vec<UserSum>, NoMemory>
+    ensures { IfOk result (λ users. AreUsers log.now users.items) }
 {
     let mut counts = BTreeMap::new(alloc);
     for entry in log {

@@ -17,10 +17,10 @@ loop-entry-preserved c =
     let i = c.loop-entry.entry-index in
     let x = c.entry-item.result in
     subst (λ (l : List Numbered). Counted l c.count_entry.new.counts.entries) (sym (next_taken log i x c.loop-entry-test.true c.entry-item.is))
-    (counted_more (take i log) x c.loop-entry.counts.entries c.count_entry.new.counts.entries c.loop-entry.invariant c.in_ok-count_entry.ensures.ok)
+    (counted_more (take i log) x c.loop-entry.counts.entries c.count_entry.new.counts.entries c.loop-entry.invariant c.in_ok-count_entry.ensures)
 
-pub returns-clause-users : goal.returns-clause-users
-returns-clause-users c =
+pub returns : goal.returns
+returns c =
     let items = c.loop-user.users.items in
     let counted = subst (λ (l : List Numbered). Counted l c.loop-entry.counts.entries) (all_taken c.args.log.now c.loop-entry.entry-index c.loop-entry-test.false) c.loop-entry.invariant in
     let whole : items ++ map sum_of [] ≡ map sum_of c.loop-entry.counts.entries =
