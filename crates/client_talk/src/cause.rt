@@ -3,6 +3,7 @@ use crate::client::BadWord;
 use crate::lost::Lost;
 use crate::request::Request;
 use line_protocol::{Feeder, WireFault};
+use outside::WriteFailed;
 use std::alloc::AllocError;
 
 /// A request and the reply to it, which isn't what the request asks for.
@@ -35,6 +36,17 @@ pub enum Cause {
     WriteFault,
 }
 
+impl From<Lost> for Cause {
+    ghost use Rattle.std.specs.Prelude.{◌≡◌};
+    ghost use Rattle.client_talk.specs.declared.cause.Cause.TheVariants.{Lost};
+
+    ghost from_gives = { λ lost made. made ≡ Lost lost };
+
+    fn from(lost: Lost) -> Cause {
+        Cause::Lost(lost)
+    }
+}
+
 impl From<AllocError> for Cause {
     ghost use Rattle.std.specs.Prelude.{◌≡◌};
     ghost use Rattle.client_talk.specs.declared.cause.Cause.TheVariants.{NoMemory};
@@ -43,5 +55,16 @@ impl From<AllocError> for Cause {
 
     fn from(_failed: AllocError) -> Cause {
         Cause::NoMemory
+    }
+}
+
+impl From<WriteFailed> for Cause {
+    ghost use Rattle.std.specs.Prelude.{◌≡◌};
+    ghost use Rattle.client_talk.specs.declared.cause.Cause.TheVariants.{WriteFault};
+
+    ghost from_gives = { λ _ made. made ≡ WriteFault };
+
+    fn from(_failed: WriteFailed) -> Cause {
+        Cause::WriteFault
     }
 }

@@ -38,10 +38,8 @@ pub(crate) fn ask_greeted<L: Link>(
 ) -> Result<Feeder, Cause>
     ensures { (words : List ℕ) (want : Want) → Makes words want made → IsAnswered L.tells link.old link.new (hello_line client.now) words want result }
 {
-    match greet(alloc, link, client) {
-        Ok(_) => ask_made(link, made),
-        Err(cause) => Err(cause),
-    }
+    greet(alloc, link, client)?;
+    ask_made(link, made)
 }
 
 /// Says who the client is and asks the request of these words, and gives the reply, which is held by the feeder.
@@ -81,13 +79,8 @@ pub fn shutdown<L: Link>(alloc: Global, link: &mut L) -> Result<Feeder, Cause>
 fn glance<L: Link>(alloc: Global, link: &mut L, feature: &str) -> Result<Glance, Cause>
     ensures { IsGlanced L.tells link.old link.new feature.now result }
 {
-    match ask_made(link, Request::glance(alloc, feature)) {
-        Ok(reply) => match read_glance(reply.line()) {
-            Some(glance) => Ok(glance),
-            None => Err(Cause::NoNumbers(reply)),
-        },
-        Err(cause) => Err(cause),
-    }
+    let reply = ask_made(link, Request::glance(alloc, feature))?;
+    read_glance(reply.line()).ok_or(Cause::NoNumbers(reply))
 }
 
 /// Says who the client is, asks for the desk of each feature, and gives the table of them.
@@ -99,21 +92,11 @@ pub fn status<L: Link>(
 ) -> Result<Vec<u8>, Cause>
     ensures { IsStatus L.tells link.old link.new (hello_line client.now) (map (λ feature. feature.now) features.now) result }
 {
-    if let Err(cause) = greet(alloc, link, client) {
-        return Err(cause);
-    }
-    let Ok(mut text) = head(alloc) else {
-        return Err(Cause::NoMemory);
-    };
+    greet(alloc, link, client)?;
+    let mut text = head(alloc)?;
     for feature in features {
-        let glance = match glance(alloc, link, feature) {
-            Ok(glance) => glance,
-            Err(cause) => return Err(cause),
-        };
-        match put_row(&mut text, feature, &glance) {
-            Ok(()) => {}
-            Err(_) => return Err(Cause::NoMemory),
-        }
+        let glance = glance(alloc, link, feature)?;
+        put_row(&mut text, feature, &glance)?;
     }
     Ok(text)
 }

@@ -15,25 +15,19 @@ use session_outside::Link;
 fn say<L: Link>(link: &mut L, line: &[u8]) -> Result<Feeder, Lost>
     ensures { Says L.tells link.old link.new line.now result }
 {
-    match link.write(line) {
-        Ok(()) => hear(link),
-        Err(_) => Err(Lost::Fault),
-    }
+    link.write(line)?;
+    hear(link)
 }
 
 /// Asks a request, and gives the reply that it wants.
 pub(crate) fn ask_for<L: Link>(link: &mut L, request: Request) -> Result<Feeder, Cause>
     ensures { (words : List ℕ) → string_bytes request.line ≡ words ++ 10 ∷ [] → Asks L.tells link.old link.new words request.want result }
 {
-    match say(link, request.line.as_bytes()) {
-        Ok(reply) => {
-            if request.want.accepts(reply.line()) {
-                Ok(reply)
-            } else {
-                Err(Cause::Refused(Refusal { request, reply }))
-            }
-        }
-        Err(lost) => Err(Cause::Lost(lost)),
+    let reply = say(link, request.line.as_bytes())?;
+    if request.want.accepts(reply.line()) {
+        Ok(reply)
+    } else {
+        Err(Cause::Refused(Refusal { request, reply }))
     }
 }
 
@@ -41,8 +35,5 @@ pub(crate) fn ask_for<L: Link>(link: &mut L, request: Request) -> Result<Feeder,
 pub(crate) fn ask_made<L: Link>(link: &mut L, made: Result<Request, Cause>) -> Result<Feeder, Cause>
     ensures { (words : List ℕ) (want : Want) → Makes words want made → Asks L.tells link.old link.new words want result }
 {
-    match made {
-        Ok(request) => ask_for(link, request),
-        Err(cause) => Err(cause),
-    }
+    ask_for(link, made?)
 }

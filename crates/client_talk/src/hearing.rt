@@ -53,11 +53,10 @@ pub(crate) fn hear<L: Link>(link: &mut L) -> Result<Feeder, Lost>
     let mut feeder = Feeder::make();
     let mut quiets = 0;
     while quiets < PATIENCE {
-        match hear_some(link, &mut feeder) {
-            Ok(Step::Reply) => return Ok(feeder),
-            Ok(Step::More) => {}
-            Ok(Step::Quiet) => quiets += 1,
-            Err(lost) => return Err(lost),
+        match hear_some(link, &mut feeder)? {
+            Step::Reply => return Ok(feeder),
+            Step::More => {}
+            Step::Quiet => quiets += 1,
         }
     }
     Err(Lost::Silent)

@@ -41,16 +41,15 @@ fn wait_for_seat<L: Link, K: Clock, B: Bell, O: Sink>(
 ) -> Result<(), Cause>
     ensures { Waits L.tells K.gave B.answered link.old link.new clock.old clock.new bell.old bell.new hold.now seconds (HasRisen (O.faults out.old) (O.faults out.new)) (O.held out.old) (O.held out.new) result }
 {
-    match wait(alloc, link, clock, bell, hold.feature, seconds) {
-        Ok(Some(seat)) => match print_reply(alloc, out, Ok(seat)) {
-            Ok(()) => keep_seat(alloc, hold, link, clock, bell, out),
-            Err(cause) => Err(cause),
-        },
-        Ok(None) => {
+    match wait(alloc, link, clock, bell, hold.feature, seconds)? {
+        Some(seat) => {
+            print_reply(alloc, out, Ok(seat))?;
+            keep_seat(alloc, hold, link, clock, bell, out)
+        }
+        None => {
             let left = give_back(alloc, link, hold.feature, Standing::Waiting);
             print_reply(alloc, out, left)
         }
-        Err(cause) => Err(cause),
     }
 }
 
@@ -85,14 +84,8 @@ pub(crate) fn hold_seat<L: Link, K: Clock, B: Bell, O: Sink>(
 ) -> Result<(), Cause>
     ensures { Holds L.tells K.gave B.answered link.old link.new clock.old clock.new bell.old bell.new (hello_line client.now) hold.now (HasRisen (O.faults out.old) (O.faults out.new)) (O.held out.old) (O.held out.new) result }
 {
-    match take(alloc, link, client, hold) {
-        Ok(reply) => {
-            let waiting = hold.pace.waits_by(reply.line());
-            match print_reply(alloc, out, Ok(reply)) {
-                Ok(()) => go_on(alloc, hold, waiting, link, clock, bell, out),
-                Err(cause) => Err(cause),
-            }
-        }
-        Err(cause) => Err(cause),
-    }
+    let reply = take(alloc, link, client, hold)?;
+    let waiting = hold.pace.waits_by(reply.line());
+    print_reply(alloc, out, Ok(reply))?;
+    go_on(alloc, hold, waiting, link, clock, bell, out)
 }

@@ -19,10 +19,8 @@ use std::alloc::Global;
 fn judge_word(word: ClientWord, text: &str) -> Result<(), Cause>
     ensures { result ≡ name_verdict word text.now }
 {
-    match Name::read(text.as_bytes()) {
-        Ok(_) => Ok(()),
-        Err(fault) => Err(Cause::BadWord(BadWord { word, fault })),
-    }
+    Name::read(text.as_bytes()).map_err(|fault| Cause::BadWord(BadWord { word, fault }))?;
+    Ok(())
 }
 
 /// Whether all words that say who asks are names.
@@ -39,10 +37,8 @@ fn judge_client(client: &Client<'_>) -> Result<(), Cause>
 fn judge_made(made: Result<Request, Cause>) -> Result<(), Cause>
     ensures { (words : List ℕ) (want : Want) → Makes words want made → Judges (line_judged words) result }
 {
-    match made {
-        Ok(_) => Ok(()),
-        Err(cause) => Err(cause),
-    }
+    made?;
+    Ok(())
 }
 
 /// Whether the requests for the desks of these features can be made.

@@ -71,15 +71,11 @@ fn beat<L: Link>(
 ) -> Result<Option<Feeder>, Cause>
     ensures { Turns L.tells link.old link.new feature.now standing true result }
 {
-    match ask_made(link, Request::beat(alloc, feature, standing.beat_want())) {
-        Ok(reply) => {
-            if standing.ends(reply.line()) {
-                Ok(Some(reply))
-            } else {
-                Ok(None)
-            }
-        }
-        Err(cause) => Err(cause),
+    let reply = ask_made(link, Request::beat(alloc, feature, standing.beat_want()))?;
+    if standing.ends(reply.line()) {
+        Ok(Some(reply))
+    } else {
+        Ok(None)
     }
 }
 
@@ -96,10 +92,8 @@ fn turn<L: Link>(
     if due {
         beat(alloc, link, feature, standing)
     } else {
-        match rest(link) {
-            Ok(()) => Ok(None),
-            Err(lost) => Err(Cause::Lost(lost)),
-        }
+        rest(link)?;
+        Ok(None)
     }
 }
 
@@ -124,10 +118,8 @@ fn stay<L: Link, K: Clock, B: Bell>(
         let now = clock.now();
         let due = is_due(last, now, every);
         last = last_beat(last, now, due);
-        match turn(alloc, link, feature, standing, due) {
-            Ok(None) => {}
-            Ok(Some(seat)) => return Ok(Some(seat)),
-            Err(cause) => return Err(cause),
+        if let Some(seat) = turn(alloc, link, feature, standing, due)? {
+            return Ok(Some(seat));
         }
     }
     Ok(None)
@@ -160,10 +152,8 @@ pub fn keep<L: Link, K: Clock, B: Bell>(
 ) -> Result<Feeder, Cause>
     ensures { IsGiven L.tells K.gave B.answered link.old link.new clock.old clock.new bell.old bell.new feature.now every result }
 {
-    match stay(alloc, link, clock, bell, feature, every, Standing::Holding) {
-        Ok(_) => give_back(alloc, link, feature, Standing::Holding),
-        Err(cause) => Err(cause),
-    }
+    stay(alloc, link, clock, bell, feature, every, Standing::Holding)?;
+    give_back(alloc, link, feature, Standing::Holding)
 }
 
 /// Waits in the queue of a feature's desk, with a BEAT every so many seconds, until a seat has come, whose reply is

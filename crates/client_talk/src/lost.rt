@@ -1,4 +1,5 @@
 //! Why no reply comes.
+use session_outside::LinkFailed;
 use thiserror::Error;
 
 /// Why no reply comes to a line.
@@ -19,4 +20,15 @@ pub enum Lost {
     /// Bytes came while nothing was asked.
     #[error("an unasked reply")]
     Unasked,
+}
+
+impl From<LinkFailed> for Lost {
+    ghost use Rattle.std.specs.Prelude.{◌≡◌};
+    ghost use Rattle.client_talk.specs.declared.lost.Lost.TheVariants.{Fault};
+
+    ghost from_gives = { λ _ made. made ≡ Fault };
+
+    fn from(_failed: LinkFailed) -> Lost {
+        Lost::Fault
+    }
 }

@@ -12,19 +12,11 @@ use std::alloc::Global;
 fn lined(alloc: Global, said: Result<Feeder, Cause>) -> Result<Vec<u8>, Cause>
     ensures { Lines said result }
 {
-    match said {
-        Ok(reply) => {
-            let mut text = Vec::new(alloc);
-            if text.extend_from_slice(reply.line()).is_err() {
-                return Err(Cause::NoMemory);
-            }
-            match text.extend_from_slice(b"\n") {
-                Ok(()) => Ok(text),
-                Err(_) => Err(Cause::NoMemory),
-            }
-        }
-        Err(cause) => Err(cause),
-    }
+    let reply = said?;
+    let mut text = Vec::new(alloc);
+    text.extend_from_slice(reply.line())?;
+    text.extend_from_slice(b"\n")?;
+    Ok(text)
 }
 
 /// Prints a text, where there is one.
@@ -32,13 +24,9 @@ pub(crate) fn print<O: Sink>(out: &mut O, said: Result<Vec<u8>, Cause>) -> Resul
     ensures printed { Prints (HasRisen (O.faults out.old) (O.faults out.new)) (O.held out.old) (O.held out.new) said result }
     ensures steady { OnOk result (O.faults out.new ≡ O.faults out.old) }
 {
-    match said {
-        Ok(text) => match out.write(text.as_slice()) {
-            Ok(()) => Ok(()),
-            Err(_) => Err(Cause::WriteFault),
-        },
-        Err(cause) => Err(cause),
-    }
+    let text = said?;
+    out.write(text.as_slice())?;
+    Ok(())
 }
 
 /// Prints a reply as a line, where there is one.

@@ -30,9 +30,7 @@ impl Request {
         if words.len() > LINE_LIMIT {
             return Err(Cause::TooLong);
         }
-        if let Err(fault) = read_request(words.as_bytes()) {
-            return Err(Cause::NoRequest(fault));
-        }
+        read_request(words.as_bytes()).map_err(Cause::NoRequest)?;
         let line = format!(in alloc; "{words}\n")?;
         Ok(Request { line, want })
     }
