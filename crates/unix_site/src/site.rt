@@ -1,5 +1,5 @@
 //! A site of the real system.
-ghost use Rattle.std.specs.Prelude.{◌≡◌, ◌+◌, ◌<◌, ℕ, List, None, nat_lt, nat_le};
+ghost use Rattle.std.specs.Prelude.{◌≡◌, ◌+◌, ◌<◌, ℕ, IfOk, List, None, nat_lt, nat_le};
 ghost use Rattle.session_outside.specs.Talk.{Counted, Event};
 ghost use Rattle.daemon_outside.specs.Doors.{most_fails};
 ghost use Rattle.daemon_outside.specs.Sites.{Kept, was_heard};
@@ -38,8 +38,12 @@ pub struct UnixSite<R: Files + Net + Clock + Clone + Send + Drop> {
 }
 
 impl<R: Files + Net + Clock + Clone + Send + Drop> UnixSite<R> {
-    /// A site of this system that listens nowhere yet. It fails where memory ran out.
-    pub fn make(system: R, alloc: Global) -> Result<UnixSite<R>, AllocError> {
+    /// A site of this system that listens nowhere yet and has counted nothing. It fails where memory ran out.
+    pub fn make(system: R, alloc: Global) -> Result<UnixSite<R>, AllocError>
+        ensures listens { IfOk result (λ site. site.listening ≡ None) }
+        ensures posts { IfOk result (λ site. (site.made ≡ 0) × (site.posted ≡ 0)) }
+        ensures counts { IfOk result (λ site. (site.faults ≡ 0) × (site.tolls ≡ 0) × (site.rings ≡ 0) × (site.broken ≡ 0)) }
+    {
         Ok(UnixSite {
             system,
             flag: Arc::new(alloc, AtomicU64::new(0))?,
