@@ -211,40 +211,35 @@ module _ (seats : ℕ) (few : seats < 2 ^ 32) (party rounds : ℕ) (small : part
         let now : Stands party rounds (mine_of acts) after Checkout played = record { known = (client_of party, b.0); seated = s.seated; unqueued = s.unqueued; granted = s.granted; timely = s.timely } in
         subst (Then Hello) (sym w.1) (Checkout, refl, subst (λ m. Stands party rounds m after Checkout played) (sym (same_mine acts new (ap mine_of w.0))) now)
 
-    seat_next : (c : Client) (q : Asked acts new c kind.Checkout reply out) → q.asking.entry.request.party ≡ party → after ≡ Some c → Stood Checkout → IsGrantedOrFull q.asking.entry.reply → Then Checkout None
-    seat_next c q who known s (inl (charge, is)) =
+    -- where it stands behind one entry of its own
+    stands_behind : {c : Client} (what : Kind) (call next : Call) (then : ℕ) (q : Asked acts new c what reply out) → set_asked what ≡ None → q.asking.entry.request.party ≡ party → Stood call → IsKnown next after → is_of_holding q.asking.entry.reply ≡ has_seat next → is_of_queueing q.asking.entry.reply ≡ false → played + ahead call + cond (brings_seat q.asking.entry.reply) 1 0 ≡ then + ahead next → IsTimely rounds then next → Stands party rounds (mine_of (acts ++ new)) after next then
+    stands_behind what call next then q plain who s known holding queueing brought timely =
         let e = q.asking.entry in
         let m = mine_of acts in
-        let standing_is = stands_last m e party kind.Checkout who q.kind_is refl in
-        let one = ap {B = ℕ} (λ r. cond (brings_seat r) 1 0) is in
-        let now : Stands party rounds (m ++ e ∷ []) after Checkin played = record {
-          known = (c, known);
-          seated = ap (is_some_of is_of_holding) standing_is ∙ ap is_of_holding is;
-          unqueued = ap (is_some_of is_of_queueing) standing_is ∙ ap is_of_queueing is;
-          granted = omega (arith, count-push (λ (x : Entry). brings_seat x.reply) m e, s.granted, one);
-          timely = s.timely;
+        let standing_is = stands_last m e party what who q.kind_is plain in
+        let now : Stands party rounds (m ++ e ∷ []) after next then = record {
+          known = known;
+          seated = ap (is_some_of is_of_holding) standing_is ∙ holding;
+          unqueued = ap (is_some_of is_of_queueing) standing_is ∙ queueing;
+          granted = omega (arith, count-push (λ (x : Entry). brings_seat x.reply) m e, s.granted, brought);
+          timely = timely;
         } in
+        subst (λ l. Stands party rounds l after next then) (sym q.mine) now
+
+    seat_next : (c : Client) (q : Asked acts new c kind.Checkout reply out) → q.asking.entry.request.party ≡ party → after ≡ Some c → Stood Checkout → IsGrantedOrFull q.asking.entry.reply → Then Checkout None
+    seat_next c q who known s (inl (charge, is)) =
+        let one = ap {B = ℕ} (λ r. cond (brings_seat r) 1 0) is in
         let more = nat_lt played rounds in (
           Checkin,
           ap (λ r. stage_after Checkout r more) q.reply_is ∙ ap (λ r. stage_after Checkout (reply_line (told.Desk r (seat_in q.asking.seats) (length q.asking.before % 2 ^ 64))) more) is ∙ granted_line charge (seat_in q.asking.seats) (length q.asking.before % 2 ^ 64) more,
-          subst (λ l. Stands party rounds l after Checkin played) (sym q.mine) now,
+          stands_behind kind.Checkout Checkout Checkin played q refl who s (c, known) (ap is_of_holding is) (ap is_of_queueing is) (omega (arith, one)) s.timely,
         )
     seat_next c q who known s (inr (taken, free, is)) =
-        let e = q.asking.entry in
-        let m = mine_of acts in
-        let standing_is = stands_last m e party kind.Checkout who q.kind_is refl in
         let none = ap {B = ℕ} (λ r. cond (brings_seat r) 1 0) is in
-        let now : Stands party rounds (m ++ e ∷ []) after Checkout played = record {
-          known = (c, known);
-          seated = ap (is_some_of is_of_holding) standing_is ∙ ap is_of_holding is;
-          unqueued = ap (is_some_of is_of_queueing) standing_is ∙ ap is_of_queueing is;
-          granted = omega (arith, count-push (λ (x : Entry). brings_seat x.reply) m e, s.granted, none);
-          timely = s.timely;
-        } in
         let more = nat_lt played rounds in (
           Checkout,
           ap (λ r. stage_after Checkout r more) q.reply_is ∙ ap (λ r. stage_after Checkout (reply_line (told.Desk r (seat_in q.asking.seats) (length q.asking.before % 2 ^ 64))) more) is ∙ full_line taken free (seat_in q.asking.seats) (length q.asking.before % 2 ^ 64) more,
-          subst (λ l. Stands party rounds l after Checkout played) (sym q.mine) now,
+          stands_behind kind.Checkout Checkout Checkout played q refl who s (c, known) (ap is_of_holding is) (ap is_of_queueing is) (omega (arith, none)) s.timely,
         )
 
     -- its entry stands in the history behind those before it
@@ -265,31 +260,11 @@ module _ (seats : ℕ) (few : seats < 2 ^ 32) (party rounds : ℕ) (small : part
 
     back_next : (c : Client) (q : Asked acts new c kind.Checkin reply out) → q.asking.entry.request.party ≡ party → after ≡ Some c → Stood Checkin → SaysNothing q.asking.entry.reply → (b : Bool) → nat_lt (played + 1) rounds ≡ b → Then Checkin None
     back_next c q who known s says true t =
-        let e = q.asking.entry in
-        let m = mine_of acts in
-        let standing_is = stands_last m e party kind.Checkin who q.kind_is refl in
         let none = ap {B = ℕ} (λ b. cond b 1 0) says.2 in
-        let now : Stands party rounds (m ++ e ∷ []) after Checkout (played + 1) = record {
-          known = (c, known);
-          seated = ap (is_some_of is_of_holding) standing_is ∙ says.0;
-          unqueued = ap (is_some_of is_of_queueing) standing_is ∙ says.1;
-          granted = omega (arith, count-push (λ (x : Entry). brings_seat x.reply) m e, s.granted, none);
-          timely = ltb-true (played + 1) rounds t;
-        } in
-        (Checkout, ap (stage_after Checkin reply) t, subst (λ l. Stands party rounds l after Checkout (played + 1)) (sym q.mine) now)
+        (Checkout, ap (stage_after Checkin reply) t, stands_behind kind.Checkin Checkin Checkout (played + 1) q refl who s (c, known) says.0 says.1 (omega (arith, none)) (ltb-true (played + 1) rounds t))
     back_next c q who known s says false t =
-        let e = q.asking.entry in
-        let m = mine_of acts in
-        let standing_is = stands_last m e party kind.Checkin who q.kind_is refl in
         let none = ap {B = ℕ} (λ b. cond b 1 0) says.2 in
-        let now : Stands party rounds (m ++ e ∷ []) after Quit (played + 1) = record {
-          known = (c, known);
-          seated = ap (is_some_of is_of_holding) standing_is ∙ says.0;
-          unqueued = ap (is_some_of is_of_queueing) standing_is ∙ says.1;
-          granted = omega (arith, count-push (λ (x : Entry). brings_seat x.reply) m e, s.granted, none);
-          timely = omega (arith, ltb-false (played + 1) rounds t, s.timely);
-        } in
-        (Quit, ap (stage_after Checkin reply) t, subst (λ l. Stands party rounds l after Quit (played + 1)) (sym q.mine) now)
+        (Quit, ap (stage_after Checkin reply) t, stands_behind kind.Checkin Checkin Quit (played + 1) q refl who s (c, known) says.0 says.1 (omega (arith, none)) (omega (arith, ltb-false (played + 1) rounds t, s.timely)))
 
     gave_back : (more : List Entry) → own h party ≡ mine_of (acts ++ new) ++ more → Stood Checkin → Answers o acts client (request_of (body_of party Checkin)) new after out → Then Checkin out
     gave_back more is s a =
