@@ -1,6 +1,8 @@
 //! A stream socket whose reads look for bytes before they wait for them.
 ghost use Rattle.std.specs.Io.{ReadsAtMost, WritesAtMost};
-ghost use Rattle.std.specs.Prelude.{◌≤◌, IfOk, IfSome, length};
+ghost use Rattle.std.specs.IoError.{error_kind};
+ghost use Rattle.std.specs.Prelude.{◌≡◌, ◌≤◌, IfOk, IfSome, false, length, true};
+ghost use Rattle.unix_site.specs.Quiet.{is_quiet_kind};
 
 use crate::busy_poll::BusyPoll;
 use std::hint;
@@ -21,7 +23,9 @@ const LOOKS: u32 = 60;
 const PAUSES: u32 = 4;
 
 /// Whether a call ended only because nothing came in its time, or because a signal did.
-pub(crate) fn is_quiet(error: &io::Error) -> bool {
+pub(crate) fn is_quiet(error: &io::Error) -> bool
+    ensures { result ≡ is_quiet_kind (error_kind error.now) }
+{
     matches!(
         error.kind(),
         ErrorKind::WouldBlock | ErrorKind::TimedOut | ErrorKind::Interrupted
@@ -48,7 +52,9 @@ pub(crate) struct Socket {
 
 impl Socket {
     /// The socket of a stream that is as it was made. It fails as the system does where that refuses the times.
-    pub(crate) fn over(stream: UnixStream) -> io::Result<Socket> {
+    pub(crate) fn over(stream: UnixStream) -> io::Result<Socket>
+        ensures { IfOk result (λ socket. (socket.waits ≡ true) × (socket.poll ≡ record { hits = 0; rest = 0; last_rest = 15 })) }
+    {
         stream.set_read_timeout(Some(Duration::from_secs(READ_SECONDS)))?;
         stream.set_write_timeout(Some(Duration::from_secs(WRITE_SECONDS)))?;
         Ok(Socket {
@@ -59,7 +65,10 @@ impl Socket {
     }
 
     /// Has calls of the stream wait, or not.
-    fn set_waits(&mut self, waits: bool) -> io::Result<()> {
+    fn set_waits(&mut self, waits: bool) -> io::Result<()>
+        ensures waits { IfOk result (λ _. self.new.waits ≡ waits) }
+        ensures poll { self.new.poll ≡ self.old.poll }
+    {
         if self.waits != waits {
             self.stream.set_nonblocking(!waits)?;
             self.waits = waits;
@@ -101,7 +110,9 @@ impl Socket {
 
     /// Writes as many bytes as are taken without waiting.
     fn write_at_once(&mut self, piece: &[u8]) -> io::Result<usize>
-        ensures { WritesAtMost result piece.now }
+        ensures taken { WritesAtMost result piece.now }
+        ensures waits { self.new.waits ≡ self.old.waits }
+        ensures poll { self.new.poll ≡ self.old.poll }
     {
         match self.stream.write(piece) {
             Err(error) if is_quiet(&error) => Ok(0),
@@ -110,7 +121,10 @@ impl Socket {
     }
 
     /// Writes the whole piece, or fails where not all of it is taken without waiting.
-    pub(crate) fn write_without_waiting(&mut self, piece: &[u8]) -> io::Result<()> {
+    pub(crate) fn write_without_waiting(&mut self, piece: &[u8]) -> io::Result<()>
+        ensures waits { IfOk result (λ _. self.new.waits ≡ false) }
+        ensures poll { self.new.poll ≡ self.old.poll }
+    {
         self.set_waits(false)?;
         if self.write_at_once(piece)? < piece.len() {
             return Err(ErrorKind::WouldBlock.into());
@@ -119,7 +133,9 @@ impl Socket {
     }
 
     /// Writes the whole piece.
-    pub(crate) fn write_all(&mut self, piece: &[u8]) -> io::Result<()> {
+    pub(crate) fn write_all(&mut self, piece: &[u8]) -> io::Result<()>
+        ensures { self.new.poll ≡ self.old.poll }
+    {
         let written = if self.waits {
             0
         } else {
