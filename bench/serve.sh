@@ -4,7 +4,7 @@
 # rustc builds here without a network), at one pool, at 64, and under 1,000 lines of options; and what the daemon takes
 # at rest. A turn in which others took more than 3 % of the processors is asked again, up to seven times.
 # `serve.sh turns`: 16 and 256 clients in many short turns, and of each server the mean of its parts of the echo's requests
-# in the same turns, with its error.
+# in the same turns, with its error. `serve.sh one`: the same where all share one processor, with 4 and 64 clients.
 # Build the program first: (cd crates/licence_main && rt run -- check data/licence data/options)
 cd "$(dirname "$0")/.." || exit 1
 peers=$(mktemp -d) || exit 1
@@ -13,5 +13,9 @@ for peer in echo plain ask; do
     rustc -O "bench/peers/$peer.rs" -o "$peers/$peer" || exit 1
 done
 bench=serve
-[ "$1" = turns ] && bench=turns && shift
+case $1 in turns | one)
+    bench=$1
+    shift
+    ;;
+esac
 python3 -B "bench/$bench.py" "$peers" "$@"
