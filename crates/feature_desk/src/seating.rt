@@ -13,7 +13,6 @@ use crate::passes::{Chair, DeskPass, Noted, Seating};
 use core::mem::replace_with;
 use counter::Asked;
 use desk_seats::{SeatHold, SeatTurn};
-use options_machine::Reply;
 use std::sync::Wait;
 
 impl Desk {
@@ -64,7 +63,7 @@ impl Desk {
             queued,
             asked,
         } = noted;
-        if !brings_seat(&asked.reply) {
+        if !asked.reply.brings_seat() {
             let chair = self.kept(chair, asked.held);
             return Seating::Matched(
                 DeskPass {
@@ -109,7 +108,7 @@ impl Desk {
         ensures goes { Goes (pass_in chair.old) (pass_in chair.new) }
         ensures same { brings_seat asked.now.reply ≡ false → is_hold chair.old ≡ asked.now.held → pass_in chair.new ≡ pass_in chair.old }
     {
-        if brings_seat(&asked.reply) {
+        if asked.reply.brings_seat() {
             replace_with(
                 chair,
                 (),
@@ -185,11 +184,4 @@ impl Desk {
             Chair::Entering(entering) => self.seats.turn(entering),
         }
     }
-}
-
-/// Whether a reply brings a seat.
-fn brings_seat(reply: &Reply) -> bool
-    ensures { result ≡ brings_seat reply.now }
-{
-    matches!(reply, Reply::Granted(_) | Reply::Retaken(_))
 }

@@ -1,6 +1,6 @@
 //! What is asked and what is answered.
 ghost use Rattle.std.specs.Prelude.{◌≡◌};
-ghost use Rattle.options_machine.specs.Own.{is_of_holding, is_of_queueing};
+ghost use Rattle.options_machine.specs.Own.{brings_seat, is_of_holding, is_of_queueing};
 ghost use Rattle.options_machine.specs.Step.{set_asked, task};
 
 use lic_types::Client;
@@ -144,6 +144,13 @@ pub enum Reply {
 }
 
 impl Reply {
+    /// Whether it brings its party a seat: Granted and Retaken.
+    pub fn brings_seat(&self) -> bool
+        ensures { result ≡ brings_seat self.now }
+    {
+        matches!(self, Reply::Granted(_) | Reply::Retaken(_))
+    }
+
     /// Whether it says that its party has a seat and was told of it. This project's own: Granted, Retaken, AlreadyHeld,
     /// Beaten, Held, and Counts with `own`.
     pub fn is_of_holding(&self) -> bool

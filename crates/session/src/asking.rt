@@ -10,7 +10,6 @@ ghost use Rattle.session.specs.Did.{Agrees};
 ghost use Rattle.session.specs.Pass.{AreOf, Gains};
 ghost use Rattle.session.specs.Table.{AsksAny, Setup, IsAsking};
 ghost use Rattle.session.specs.Told.{IsAnswer, seat_with};
-ghost use Rattle.counter.specs.Account.{brings_seat};
 
 use crate::asked::Whom;
 use counter::{Counter, Glance};
@@ -28,18 +27,11 @@ pub(crate) struct Answered {
     pub(crate) seat: Option<u32>,
 }
 
-/// Whether a reply brings a seat.
-fn brings_seat(reply: &Reply) -> bool
-    ensures { result ≡ brings_seat reply.now }
-{
-    matches!(reply, Reply::Granted(_) | Reply::Retaken(_))
-}
-
 /// The seat that a reply brought.
 fn seat_with<C: Counter>(counter: &C, reply: &Reply) -> Option<u32>
     ensures { result ≡ seat_with (C.account counter.now) reply.now }
 {
-    if brings_seat(reply) {
+    if reply.brings_seat() {
         counter.seat()
     } else {
         None
