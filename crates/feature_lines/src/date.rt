@@ -121,8 +121,10 @@ fn expiry_on(day: u8, month: u8, year: &[u8]) -> Option<Expiry>
     Some(Expiry::On(day))
 }
 
-/// The expiry that a word names: `permanent`, or a date as `31-dec-2026`, in any case.
-pub(crate) fn read_expiry(word: &[u8]) -> Option<Expiry>
+/// The expiry that a word names: `permanent`, or a day as `31-dec-2026`, in any case; zeros in the place of the year mean
+/// never. None comes exactly where the word is no expiry, or names a day that the calendar hasn't got. The form is that
+/// of a licence file (FlexNet's guide, on the FEATURE line).
+pub fn read_expiry(word: &[u8]) -> Option<Expiry>
     ensures { result ≡ expiry_of word.now }
 {
     if is_word(word, b"permanent") {

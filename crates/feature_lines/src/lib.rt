@@ -11,6 +11,7 @@ mod pool;
 mod route;
 mod words;
 
+pub use date::read_expiry;
 pub use fault::LicenceFault;
 pub use lic_types::{Note, NoteKind};
 pub use licence::{Licence, read_licence};

@@ -1,5 +1,4 @@
-use Rattle.std.specs.Prelude.{ℕ, List, Option, None, Some, option_and_then}
-use Rattle.feature_lines.specs.Dates.{expiry_on}
+use Rattle.std.specs.Prelude.{Option, None, Some, option_and_then}
 use Rattle.lic_types.specs.declared.day.Day.{Day}
 use Rattle.lic_types.specs.declared.day.Expiry.{Expiry}
 use Rattle.lic_types.specs.declared.day.Expiry.TheVariants.{Never, On}
@@ -11,7 +10,3 @@ day_in (On day) = Some day
 -- the last day of an expiry, where there is one
 abbrev pub last_day : Option Expiry → Option Day
 last_day expiry = option_and_then day_in expiry
-
--- the last day of the expiry of a day, a month and a year's word
-abbrev pub day_dated : ℕ → ℕ → List ℕ → Option Day
-day_dated day month year = last_day (expiry_on day month year)
