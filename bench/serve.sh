@@ -3,8 +3,9 @@
 # small licence daemon in plain Rust with a thread for each connection (bench/peers/echo.rs, plain.rs and ask.rs, which
 # rustc builds here without a network), at one pool, at 64, and under 1,000 lines of options; and what the daemon takes
 # at rest. A turn in which others took more than 3 % of the processors is asked again, up to seven times.
-# `serve.sh turns`: 16 and 256 clients in many short turns, and of each server the mean of its parts of the echo's requests
-# in the same turns, with its error. `serve.sh one`: the same where all share one processor, with 4 and 64 clients.
+# `serve.sh turns`: 16 and 256 clients in many short turns of servers that are started anew twelve times, and of each server
+# the mean of its parts of the echo's requests in the same turns, with its error; it takes half an hour. `serve.sh one`: the
+# same where all share one processor, with 4 and 64 clients.
 # Build the program first: (cd crates/licence_main && rt run -- check data/licence data/options)
 cd "$(dirname "$0")/.." || exit 1
 peers=$(mktemp -d) || exit 1

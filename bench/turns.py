@@ -1,33 +1,52 @@
-"""Prints what a daemon serves beside a bare echo server and a small daemon in plain Rust, by the mean of many short turns."""
+"""Prints what a daemon serves beside a bare echo server and a small daemon in plain Rust, by many short turns of servers that are started anew."""
 
 from contextlib import ExitStack
+from random import sample
 from statistics import mean, median, stdev
 
 from serve import ECHO, all_up, turn, words
 
 CLIENTS = (16, 256)
-TURNS = 24
+RUNS = 12
+TURNS = 5
 MILLISECONDS = 500
+WANTED = 0.8
 
 
-def compare(program, peers, clients):
-    """Asks each server once a turn, and prints what its requests are of the echo's in the same turns, with the error of the mean, and its p99 of the echo's."""
+def run(program, peers, clients):
+    """Of each server, all started for this run, the figures of its turns, each turn of all in an order of its own; and the most that others took in one."""
     with ExitStack() as up:
         servers = all_up(up, program, peers, clients)
         found = {name: [] for name, _, _ in servers}
         most_taken = 0
-        for n in range(TURNS):
-            for name, path, pools in servers[n % len(servers):] + servers[: n % len(servers)]:
+        for _ in range(TURNS):
+            for name, path, pools in sample(servers, len(servers)):
                 taken, figures = turn(peers, path, clients, pools, MILLISECONDS)
                 found[name].append(figures)
                 most_taken = max(most_taken, taken)
-    echoes = found[ECHO]
-    p99 = median(figures[2] for figures in echoes)
-    for name, turns in found.items():
-        parts = [figures[0] / echo[0] for figures, echo in zip(turns, echoes)]
-        error = stdev(parts) / len(parts) ** 0.5
-        print(f"{clients}, {name}: {mean(parts):.2f} +- {error:.2f} of the echo's requests, {median(figures[2] for figures in turns) / p99:.2f} of its p99", flush=True)
-    print(f"{clients}: others took {most_taken * 100:.1f} % of the processors in a turn, at most", flush=True)
+    return found, most_taken
+
+
+def with_error(parts):
+    """A mean, and its error."""
+    return f"{mean(parts):.3f} +- {stdev(parts) / len(parts) ** 0.5:.3f}"
+
+
+def line_of(name, runs):
+    """What a server's requests are of the echo's in the same turns, and in how many runs the best of its turns had what is wanted of the best of the echo's."""
+    parts = [mean(figures[0] / echo[0] for figures, echo in zip(found[name], found[ECHO])) for found in runs]
+    bests = [max(figures[0] for figures in found[name]) / max(echo[0] for echo in found[ECHO]) for found in runs]
+    p99 = {of: median(figures[2] for found in runs for figures in found[of]) for of in (name, ECHO)}
+    enough = sum(WANTED <= best for best in bests)
+    return f"{with_error(parts)} of the echo's requests, the best {with_error(bests)}, {enough} of {len(runs)} times {WANTED}; {p99[name] / p99[ECHO]:.2f} of its p99"
+
+
+def compare(program, peers, clients):
+    """Asks all servers, run after run."""
+    runs, taken = zip(*(run(program, peers, clients) for _ in range(RUNS)))
+    for name in runs[0]:
+        print(f"{clients}, {name}: {line_of(name, runs)}", flush=True)
+    print(f"{clients}: others took {max(taken) * 100:.1f} % of the processors in a turn, at most", flush=True)
 
 
 def main():
