@@ -6,6 +6,7 @@ import sys
 import tempfile
 import time
 from contextlib import ExitStack, contextmanager
+from random import sample
 
 sys.path.insert(0, "checks")
 from daemon import Daemon
@@ -100,18 +101,24 @@ def all_up(up, program, peers, clients):
     return servers
 
 
-def run(program, peers, clients):
-    """Of the peers and the daemon on each site, all up at once and asked in turns, the mean of what their turns found, and the most that others took in one."""
+def asked(program, peers, clients, turns, milliseconds):
+    """Of each server, all started for this, the figures of its turns, each turn of all in an order of its own; and the most that others took in one."""
     with ExitStack() as up:
         servers = all_up(up, program, peers, clients)
-        turns = {name: [] for name, _, _ in servers}
+        found = {name: [] for name, _, _ in servers}
         most_taken = 0
-        for n in range(TURNS):
-            for name, path, pools in servers[n:] + servers[:n]:
-                taken, figures = turn(peers, path, clients, pools, MILLISECONDS)
-                turns[name].append(figures)
+        for _ in range(turns):
+            for name, path, pools in sample(servers, len(servers)):
+                taken, figures = turn(peers, path, clients, pools, milliseconds)
+                found[name].append(figures)
                 most_taken = max(most_taken, taken)
-    return {name: [mean(figure) for figure in zip(*found)] for name, found in turns.items()}, most_taken
+    return found, most_taken
+
+
+def run(program, peers, clients):
+    """Of the peers and the daemon on each site the mean of what their turns found, and the most that others took in one."""
+    found, most_taken = asked(program, peers, clients, TURNS, MILLISECONDS)
+    return {name: [mean(figure) for figure in zip(*turns)] for name, turns in found.items()}, most_taken
 
 
 def best(runs):

@@ -1,30 +1,14 @@
 """Prints what a daemon serves beside a bare echo server and a small daemon in plain Rust, by many short turns of servers that are started anew."""
 
-from contextlib import ExitStack
-from random import sample
 from statistics import mean, median, stdev
 
-from serve import ECHO, all_up, turn, words
+from serve import ECHO, asked, words
 
 CLIENTS = (16, 256)
 RUNS = 12
 TURNS = 5
 MILLISECONDS = 500
 WANTED = 0.8
-
-
-def run(program, peers, clients):
-    """Of each server, all started for this run, the figures of its turns, each turn of all in an order of its own; and the most that others took in one."""
-    with ExitStack() as up:
-        servers = all_up(up, program, peers, clients)
-        found = {name: [] for name, _, _ in servers}
-        most_taken = 0
-        for _ in range(TURNS):
-            for name, path, pools in sample(servers, len(servers)):
-                taken, figures = turn(peers, path, clients, pools, MILLISECONDS)
-                found[name].append(figures)
-                most_taken = max(most_taken, taken)
-    return found, most_taken
 
 
 def with_error(parts):
@@ -42,8 +26,8 @@ def line_of(name, runs):
 
 
 def compare(program, peers, clients):
-    """Asks all servers, run after run."""
-    runs, taken = zip(*(run(program, peers, clients) for _ in range(RUNS)))
+    """Asks all servers, which are started anew for each run."""
+    runs, taken = zip(*(asked(program, peers, clients, TURNS, MILLISECONDS) for _ in range(RUNS)))
     for name in runs[0]:
         print(f"{clients}, {name}: {line_of(name, runs)}", flush=True)
     print(f"{clients}: others took {max(taken) * 100:.1f} % of the processors in a turn, at most", flush=True)
