@@ -15,6 +15,7 @@ CLIENTS = (1, 16, 256)
 RUNS = 5
 TURNS = 3
 MILLISECONDS = 1000
+BEFORE = 1000
 DISTURBED = 0.03
 TRIES = 8
 ECHO = "the echo"
@@ -34,9 +35,9 @@ def mean(numbers):
     return sum(numbers) / len(numbers)
 
 
-def ask(peers, path, clients, pools, milliseconds):
-    """Requests a second, and three percentiles of the time to an answer in microseconds."""
-    words = [f"{peers}/ask", path, str(clients), str(milliseconds), str(pools)]
+def ask(peers, path, clients, pools, milliseconds, before=0):
+    """Requests a second, and three percentiles of the time to an answer in microseconds, once all have asked for so long before."""
+    words = [f"{peers}/ask", path, str(clients), str(milliseconds), str(pools), str(before)]
     told = subprocess.run(words, stdout=subprocess.PIPE, check=True)
     return [float(word) for word in told.stdout.split()]
 
@@ -101,7 +102,7 @@ def all_up(up, program, peers, clients):
     return servers
 
 
-def asked(program, peers, clients, turns, milliseconds):
+def asked(program, peers, clients, turns, milliseconds, before=BEFORE):
     """Of each server, all started for this, the figures of its turns, each turn of all in an order of its own; and the most that others took in one."""
     with ExitStack() as up:
         servers = all_up(up, program, peers, clients)
@@ -109,7 +110,7 @@ def asked(program, peers, clients, turns, milliseconds):
         most_taken = 0
         for _ in range(turns):
             for name, path, pools in sample(servers, len(servers)):
-                taken, figures = turn(peers, path, clients, pools, milliseconds)
+                taken, figures = turn(peers, path, clients, pools, milliseconds, before)
                 found[name].append(figures)
                 most_taken = max(most_taken, taken)
     return found, most_taken

@@ -2,7 +2,7 @@
 
 from statistics import mean, median, stdev
 
-from serve import ECHO, asked, words
+from serve import BEFORE, ECHO, asked, words
 
 CLIENTS = (16, 256)
 RUNS = 12
@@ -25,9 +25,9 @@ def line_of(name, runs):
     return f"{with_error(parts)} of the echo's requests, the best {with_error(bests)}, {enough} of {len(runs)} times {WANTED}; {p99[name] / p99[ECHO]:.2f} of its p99"
 
 
-def compare(program, peers, clients):
+def compare(program, peers, clients, before=BEFORE):
     """Asks all servers, which are started anew for each run."""
-    runs, taken = zip(*(asked(program, peers, clients, TURNS, MILLISECONDS) for _ in range(RUNS)))
+    runs, taken = zip(*(asked(program, peers, clients, TURNS, MILLISECONDS, before) for _ in range(RUNS)))
     for name in runs[0]:
         print(f"{clients}, {name}: {line_of(name, runs)}", flush=True)
     print(f"{clients}: others took {max(taken) * 100:.1f} % of the processors in a turn, at most", flush=True)

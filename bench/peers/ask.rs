@@ -1,5 +1,5 @@
-//! Clients that ask a server over a Unix socket: `ask PATH CLIENTS MILLISECONDS POOLS`. Each says HELLO, and then CHECKOUT and CHECKIN in turn, each once the line before was answered; client i asks for feature f followed by i modulo POOLS.
-//! Prints requests a second, each client's over the time in which it asked, added up, and the middle, the 99th and the 99.9th percentile of the time to an answer in microseconds.
+//! Clients that ask a server over a Unix socket: `ask PATH CLIENTS MILLISECONDS POOLS BEFORE`. Each says HELLO, and then CHECKOUT and CHECKIN in turn, each once the line before was answered; client i asks for feature f followed by i modulo POOLS. What they ask in the first BEFORE milliseconds isn't counted, and what they ask in the MILLISECONDS after them is.
+//! Prints requests a second, each client's over the time in which they counted, added up, and the middle, the 99th and the 99.9th percentile of the time to an answer in microseconds.
 use std::env::args;
 use std::io::{BufRead, BufReader, Write};
 use std::os::unix::net::UnixStream;
@@ -29,16 +29,28 @@ impl Client {
     }
 }
 
-/// The nanoseconds to each answer, and the requests a second.
-fn work(path: &str, number: usize, pools: usize, start: &Barrier, is_over: &AtomicBool) -> (Vec<u32>, f64) {
+/// What all clients share: when they begin, and whether their requests count yet and are over.
+struct Course {
+    start: Barrier,
+    counts: AtomicBool,
+    is_over: AtomicBool,
+}
+
+/// The nanoseconds to each answer that counts, and such requests a second.
+fn work(path: &str, number: usize, pools: usize, course: &Course) -> (Vec<u32>, f64) {
     let mut client = Client::of(path);
     client.ask(format!("HELLO u{number} h d p\n").as_bytes());
     let feature = number % pools;
     let requests = [format!("CHECKOUT f{feature} 1.0\n"), format!("CHECKIN f{feature}\n")];
     let mut taken = Vec::with_capacity(1 << 20);
-    start.wait();
+    course.start.wait();
+    while !course.counts.load(Ordering::Relaxed) {
+        for request in &requests {
+            client.ask(request.as_bytes());
+        }
+    }
     let started = Instant::now();
-    while !is_over.load(Ordering::Relaxed) {
+    while !course.is_over.load(Ordering::Relaxed) {
         for request in &requests {
             let begun = Instant::now();
             client.ask(request.as_bytes());
@@ -53,18 +65,19 @@ fn main() {
     let words: Vec<String> = args().skip(1).collect();
     let [path, rest @ ..] = words.as_slice() else { panic!("a path") };
     let numbers: Vec<usize> = rest.iter().map(|word| word.parse().expect("a number")).collect();
-    let [clients, milliseconds, pools] = numbers.as_slice() else { panic!("three numbers") };
-    let start = Arc::new(Barrier::new(clients + 1));
-    let is_over = Arc::new(AtomicBool::new(false));
+    let [clients, milliseconds, pools, before] = numbers.as_slice() else { panic!("four numbers") };
+    let course = Arc::new(Course { start: Barrier::new(clients + 1), counts: AtomicBool::new(*before == 0), is_over: AtomicBool::new(false) });
     let threads: Vec<_> = (0..*clients)
         .map(|number| {
-            let (path, start, is_over, pools) = (path.clone(), start.clone(), is_over.clone(), *pools);
-            thread::spawn(move || work(&path, number, pools, &start, &is_over))
+            let (path, course, pools) = (path.clone(), course.clone(), *pools);
+            thread::spawn(move || work(&path, number, pools, &course))
         })
         .collect();
-    start.wait();
+    course.start.wait();
+    thread::sleep(Duration::from_millis(*before as u64));
+    course.counts.store(true, Ordering::Relaxed);
     thread::sleep(Duration::from_millis(*milliseconds as u64));
-    is_over.store(true, Ordering::Relaxed);
+    course.is_over.store(true, Ordering::Relaxed);
     let (each, rates): (Vec<_>, Vec<_>) = threads.into_iter().map(|it| it.join().expect("a client")).unzip();
     let mut taken: Vec<u32> = each.into_iter().flatten().collect();
     taken.sort_unstable();
