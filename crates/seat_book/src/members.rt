@@ -105,14 +105,7 @@ fn put_seat(parts: &mut Parts, party: u32, client: &Client, charge: Charge, told
     ensures others { parts.new ≡ record parts.old { seats = parts.new.seats } }
     ensures parties { parts.new.seats.parties ≡ parts.old.seats.parties }
 {
-    let holder = Holder {
-        party,
-        client: *client,
-        charge,
-        beat: parts.moment,
-        told,
-    };
-    parts.seats.put(&holder);
+    parts.seats.put(party, client, charge, parts.moment, told);
 }
 
 /// Gives a party that has none a seat with this charge, and counts it.

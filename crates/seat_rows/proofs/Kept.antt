@@ -1,7 +1,8 @@
 -- What is kept and seen of rows and marks after each call.
-use Rattle.std.proofs.Common.{◌≡◌, ℕ, ◌+◌, ◌-◌, ◌<◌, ◌≤◌, Bool, true, false, cond, List, [], Option, None, Some, length, get_or, set, replicate, map, filter, refl, ap, sym, ◌∙◌, arith, subst, suc, zero, not}
+use Rattle.std.proofs.Common.{Bor, ◌≡◌, ℕ, ◌+◌, ◌-◌, ◌<◌, ◌≤◌, Bool, true, false, cond, List, [], Option, None, Some, length, get_or, set, replicate, map, filter, refl, ap, sym, ◌∙◌, arith, subst, suc, zero, not}
 use Rattle.std.specs.List.{count_by, find}
 use Rattle.std.specs.Prelude.{IfNone, IfSome, is_some}
+use Rattle.std.specs.Option.{option_copied, option_map}
 use Rattle.std.proofs.lemmas.Bool.{eqb-true, le-ltb}
 use Rattle.std.proofs.lemmas.Grind.{common_steps}
 use Rattle.options_machine.specs.declared.rows.Holder.{Holder}
@@ -54,13 +55,15 @@ seat_is v rows held marks party o e k within at = sym (seat_at v rows held party
 of_row : (rows : List (Option Holder)) (held : ℕ) (marks : List (Option ℕ)) (party : ℕ) (h : Holder) → AreKept rows held marks → get_or rows party None ≡ Some h → h.party ≡ party
 of_row rows held marks party h k at = eqb-true h.party party (find_passes (is_holder party) (holders_in rows) h (find_in_row 0 party party rows (omega arith) k.in_place ∙ at))
 
-pub some_of : (o : Option Holder) → is_some o ≡ true → (h : Holder) × (o ≡ Some h)
-some_of None e = let never : false ≡ true = e in absurd (cc)
-some_of (Some h) e = (h, refl)
+-- what is read of a row
 
-pub none_of : (o : Option Holder) → is_some o ≡ false → o ≡ None
-none_of None e = refl
-none_of (Some h) e = let never : true ≡ false = e in absurd (cc)
+pub some_of : (r : Option (Bor Holder)) (o : Option Holder) → option_copied r ≡ o → is_some r ≡ true → (h : Holder) × (o ≡ Some h)
+some_of None o e f = let never : false ≡ true = f in absurd (cc)
+some_of (Some h) o e f = (h.now, sym e)
+
+pub none_of : (r : Option (Bor Holder)) (o : Option Holder) → option_copied r ≡ o → is_some r ≡ false → o ≡ None
+none_of None o e f = sym e
+none_of (Some h) o e f = let never : true ≡ false = f in absurd (cc)
 
 -- one more
 
@@ -108,9 +111,6 @@ take_seen v rows held marks party e k =
     seen_with v rows party None (filter (λ (h : Holder). not (is_holder party h)) v.holders) e
     (take_in_row 0 party party rows (omega arith) k.in_place ∙ ap (λ (w : SeatList). filter (λ (h : Holder). not (is_holder party h)) w.holders) e)
 
-pub take_none : (v : SeatList) (rows : List (Option Holder)) (held : ℕ) (marks : List (Option ℕ)) (party : ℕ) → seat_list rows ≡ v → AreKept rows held marks → get_or rows party None ≡ None → v ≡ record v { holders = filter (λ (h : Holder). not (is_holder party h)) v.holders }
-take_none v rows held marks party e k none = sym e ∙ sym (ap seat_list (set_same rows party none)) ∙ take_seen v rows held marks party e k
-
 -- one that changes
 
 map_kept : (f : Bool → Holder → Holder) (rows : List (Option Holder)) (held : ℕ) (marks new : List (Option ℕ)) (party : ℕ) (h : Holder) → (f true h).party ≡ h.party → AreKept rows held marks → get_or rows party None ≡ Some h
@@ -137,17 +137,33 @@ map_seen f same v rows held marks party h e k at =
     seen_with v rows party (Some (f true h)) (map (λ (x : Holder). f (is_holder party x) x) v.holders) e
     (map_in_row f same 0 party party h rows (omega arith) k.in_place at ∙ ap (λ (w : SeatList). map (λ (x : Holder). f (is_holder party x) x) w.holders) e)
 
--- where the party has no seat, its row is written back and none changes
+-- one that changes, if it is there
 
-pub unset_kept : (rows : List (Option Holder)) (held : ℕ) (marks : List (Option ℕ)) (party : ℕ) (o : Option Holder) → AreKept rows held marks → get_or rows party None ≡ o → o ≡ None → AreKept (set rows party o) held marks
-unset_kept rows held marks party o k at none = subst (λ (x : Option Holder). AreKept (set rows party x) held marks) (sym none) (subst (λ (rs : List (Option Holder)). AreKept rs held marks) (sym (set_same rows party (at ∙ none))) k)
+unset_kept : (rows : List (Option Holder)) (held : ℕ) (marks : List (Option ℕ)) (party : ℕ) → AreKept rows held marks → get_or rows party None ≡ None → AreKept (set rows party None) held marks
+unset_kept rows held marks party k at = subst (λ (rs : List (Option Holder)). AreKept rs held marks) (sym (set_same rows party at)) k
 
-pub unset_seen : (f : Bool → Holder → Holder) → ((h : Holder) → f false h ≡ h) → (v : SeatList) (rows : List (Option Holder)) (held : ℕ) (marks : List (Option ℕ)) (party : ℕ) (o : Option Holder) → seat_list rows ≡ v → AreKept rows held marks → get_or rows party None ≡ o → o ≡ None
-    → seat_list (set rows party o) ≡ record v { holders = map (λ (x : Holder). f (is_holder party x) x) v.holders }
-unset_seen f same v rows held marks party o e k at none =
-    seen_with v rows party o (map (λ (x : Holder). f (is_holder party x) x) v.holders) e
-    (ap (λ (x : Option Holder). holders_in (set rows party x)) none ∙ ap holders_in (set_same rows party (at ∙ none))
-    ∙ sym (map_no_row f same 0 party party rows (omega arith) k.in_place (at ∙ none)) ∙ ap (λ (w : SeatList). map (λ (x : Holder). f (is_holder party x) x) w.holders) e)
+unset_seen : (f : Bool → Holder → Holder) → ((h : Holder) → f false h ≡ h) → (v : SeatList) (rows : List (Option Holder)) (held : ℕ) (marks : List (Option ℕ)) (party : ℕ) → seat_list rows ≡ v → AreKept rows held marks → get_or rows party None ≡ None
+    → seat_list (set rows party None) ≡ record v { holders = map (λ (x : Holder). f (is_holder party x) x) v.holders }
+unset_seen f same v rows held marks party e k at =
+    seen_with v rows party None (map (λ (x : Holder). f (is_holder party x) x) v.holders) e
+    (ap holders_in (set_same rows party at)
+    ∙ sym (map_no_row f same 0 party party rows (omega arith) k.in_place at) ∙ ap (λ (w : SeatList). map (λ (x : Holder). f (is_holder party x) x) w.holders) e)
+
+pub told_if_there : (f : Bool → Holder → Holder) (beat : ℕ) → ((h : Holder) → (f true h).party ≡ h.party) → ((h : Holder) → (f true h).beat ≡ beat) → (rows : List (Option Holder)) (held : ℕ) (marks new : List (Option ℕ)) (party : ℕ) (o : Option Holder) → AreKept rows held marks → get_or rows party None ≡ o
+    → is_some o ≡ true → new ≡ set marks party (Some (earlier_mark (get_or marks party None) beat)) → AreKept (set rows party (option_map (f true) o)) held new
+told_if_there f beat own heard rows held marks new party None k at some noted = let never : false ≡ true = some in absurd (cc)
+told_if_there f beat own heard rows held marks new party (Some h) k at some noted =
+    told_kept f rows held marks new party h (own h) k at (noted ∙ sym (ap (λ (n : ℕ). set marks party (Some (earlier_mark (get_or marks party None) n))) (heard h)))
+
+pub charged_if_there : (f : Bool → Holder → Holder) → ((h : Holder) → (f true h).party ≡ h.party) → ((h : Holder) → (f true h).beat ≡ h.beat) → (rows : List (Option Holder)) (held : ℕ) (marks : List (Option ℕ)) (party : ℕ) (o : Option Holder) → AreKept rows held marks → get_or rows party None ≡ o
+    → AreKept (set rows party (option_map (f true) o)) held marks
+charged_if_there f own heard rows held marks party None k at = unset_kept rows held marks party k at
+charged_if_there f own heard rows held marks party (Some h) k at = charged_kept f rows held marks party h (own h) (heard h) k at
+
+pub map_if_there : (f : Bool → Holder → Holder) → ((h : Holder) → f false h ≡ h) → (v : SeatList) (rows : List (Option Holder)) (held : ℕ) (marks : List (Option ℕ)) (party : ℕ) (o : Option Holder) → seat_list rows ≡ v → AreKept rows held marks → get_or rows party None ≡ o
+    → seat_list (set rows party (option_map (f true) o)) ≡ record v { holders = map (λ (x : Holder). f (is_holder party x) x) v.holders }
+map_if_there f same v rows held marks party None e k at = unset_seen f same v rows held marks party e k at
+map_if_there f same v rows held marks party (Some h) e k at = map_seen f same v rows held marks party h e k at
 
 -- one that was silent
 
@@ -161,50 +177,53 @@ if_none (Some h) P p = tt
 pub not_none : (o : Option Holder) (h : Holder) (P : Type 0) → o ≡ Some h → IfNone o P
 not_none o h P e = subst (λ (x : Option Holder). IfNone x P) (sym e) tt
 
--- the row of the silent party, which is read
-pub record IsSilentRow (rows : List (Option Holder)) (over party : ℕ) (o : Option Holder) (h : Holder) : Type 0 where
+-- the row of the silent party, which is read, and then left empty
+pub record IsSilentRow (rows : List (Option Holder)) (over party : ℕ) (o left : Option Holder) (h : Holder) : Type 0 where
   pub read : o ≡ Some h
+  pub emptied : left ≡ None
   pub there : get_or rows party None ≡ Some h
   pub own : h.party ≡ party
   pub silent : h.beat ≤ over
 
-pub silent_read : (rows read : List (Option Holder)) (held : ℕ) (marks : List (Option ℕ)) (over party : ℕ) (o : Option Holder) → AreKept rows held marks → read ≡ rows → (h : Holder) × (get_or read party None ≡ Some h) × (h.beat ≤ over) → o ≡ get_or rows party o → (h : Holder) × IsSilentRow rows over party o h
-silent_read rows read held marks over party o k same (h, found, silent) at =
+pub silent_read : (rows read : List (Option Holder)) (held : ℕ) (marks : List (Option ℕ)) (over party : ℕ) (row o left : Option Holder) → AreKept rows held marks → read ≡ rows → (h : Holder) × (get_or read party None ≡ Some h) × (h.beat ≤ over) → row ≡ get_or rows party row → o ≡ row → left ≡ None
+    → (h : Holder) × IsSilentRow rows over party o left h
+silent_read rows read held marks over party row o left k same (h, found, silent) at copied emptied =
     let there : get_or rows party None ≡ Some h = subst (λ (rs : List (Option Holder)). get_or rs party None ≡ Some h) same found in
-    (h, record { read = sym (row_at rows party o (row_within rows party h there) at) ∙ there; there = there; own = of_row rows held marks party h k there; silent = silent })
+    (h, record { read = copied ∙ sym (row_at rows party row (row_within rows party h there) at) ∙ there; emptied = emptied; there = there; own = of_row rows held marks party h k there; silent = silent })
 
 pub silent_within : (rows read : List (Option Holder)) (over party : ℕ) → read ≡ rows → (h : Holder) × (get_or read party None ≡ Some h) × (h.beat ≤ over) → party < length rows
 silent_within rows read over party same (h, found, silent) = row_within rows party h (subst (λ (rs : List (Option Holder)). get_or rs party None ≡ Some h) same found)
 
-pub silent_kept : (rows read : List (Option Holder)) (held : ℕ) (marks new : List (Option ℕ)) (over party : ℕ) (o : Option Holder) (h : Holder) → AreKept rows held marks → read ≡ rows → IsSilentRow rows over party o h → length new ≡ length read → AreMarked (set read party None) new → AreKept (set rows party None) (held - 1) new
-silent_kept rows read held marks new over party o h k same s long marked =
-    take_kept rows held marks new party h k s.there (long ∙ ap length same ∙ sym k.long) (subst (λ (rs : List (Option Holder)). AreMarked (set rs party None) new) same marked)
+pub silent_kept : (rows read : List (Option Holder)) (held : ℕ) (marks new : List (Option ℕ)) (over party : ℕ) (o left : Option Holder) (h : Holder) → AreKept rows held marks → read ≡ rows → IsSilentRow rows over party o left h → length new ≡ length read → AreMarked (set read party None) new → AreKept (set rows party left) (held - 1) new
+silent_kept rows read held marks new over party o left h k same s long marked =
+    rw s.emptied (take_kept rows held marks new party h k s.there (long ∙ ap length same ∙ sym k.long) (subst (λ (rs : List (Option Holder)). AreMarked (set rs party None) new) same marked))
 
-pub gone_seat : (v : SeatList) (rows : List (Option Holder)) (held : ℕ) (marks : List (Option ℕ)) (over party : ℕ) (o : Option Holder) (h : Holder) → seat_list rows ≡ v → AreKept rows held marks → IsSilentRow rows over party o h → IfSome o (λ (g : Holder). find (is_holder g.party) v.holders ≡ Some g)
-gone_seat v rows held marks over party o h e k s =
+pub gone_seat : (v : SeatList) (rows : List (Option Holder)) (held : ℕ) (marks : List (Option ℕ)) (over party : ℕ) (o left : Option Holder) (h : Holder) → seat_list rows ≡ v → AreKept rows held marks → IsSilentRow rows over party o left h → IfSome o (λ (g : Holder). find (is_holder g.party) v.holders ≡ Some g)
+gone_seat v rows held marks over party o left h e k s =
     if_some o h (λ (g : Holder). find (is_holder g.party) v.holders ≡ Some g) s.read
     (subst (λ (n : ℕ). find (is_holder n) v.holders ≡ Some h) (sym s.own) (seat_at v rows held party marks e k ∙ s.there))
 
-pub gone_silent : (rows : List (Option Holder)) (over party : ℕ) (o : Option Holder) (h : Holder) → IsSilentRow rows over party o h → IfSome o (λ (g : Holder). g.beat ≤ over)
-gone_silent rows over party o h s = if_some o h (λ (g : Holder). g.beat ≤ over) s.read s.silent
+pub gone_silent : (rows : List (Option Holder)) (over party : ℕ) (o left : Option Holder) (h : Holder) → IsSilentRow rows over party o left h → IfSome o (λ (g : Holder). g.beat ≤ over)
+gone_silent rows over party o left h s = if_some o h (λ (g : Holder). g.beat ≤ over) s.read s.silent
 
-pub gone_seen : (v : SeatList) (rows : List (Option Holder)) (held : ℕ) (marks : List (Option ℕ)) (over party : ℕ) (o : Option Holder) (h : Holder) → seat_list rows ≡ v → AreKept rows held marks → IsSilentRow rows over party o h
-    → IfSome o (λ (g : Holder). seat_list (set rows party None) ≡ record v { holders = filter (λ (x : Holder). not (is_holder g.party x)) v.holders })
-gone_seen v rows held marks over party o h e k s =
-    if_some o h (λ (g : Holder). seat_list (set rows party None) ≡ record v { holders = filter (λ (x : Holder). not (is_holder g.party x)) v.holders }) s.read
-    (subst (λ (n : ℕ). seat_list (set rows party None) ≡ record v { holders = filter (λ (x : Holder). not (is_holder n x)) v.holders }) (sym s.own) (take_seen v rows held marks party e k))
+pub gone_seen : (v : SeatList) (rows : List (Option Holder)) (held : ℕ) (marks : List (Option ℕ)) (over party : ℕ) (o left : Option Holder) (h : Holder) → seat_list rows ≡ v → AreKept rows held marks → IsSilentRow rows over party o left h
+    → IfSome o (λ (g : Holder). seat_list (set rows party left) ≡ record v { holders = filter (λ (x : Holder). not (is_holder g.party x)) v.holders })
+gone_seen v rows held marks over party o left h e k s =
+    rw s.emptied (if_some o h (λ (g : Holder). seat_list (set rows party None) ≡ record v { holders = filter (λ (x : Holder). not (is_holder g.party x)) v.holders }) s.read
+    (subst (λ (n : ℕ). seat_list (set rows party None) ≡ record v { holders = filter (λ (x : Holder). not (is_holder n x)) v.holders }) (sym s.own) (take_seen v rows held marks party e k)))
 
-pub gone_fewer : (v : SeatList) (rows : List (Option Holder)) (over party : ℕ) (o : Option Holder) (h : Holder) → seat_list rows ≡ v → IsSilentRow rows over party o h → IfSome o (λ _. length (holders_in (set rows party None)) + 1 ≡ length v.holders)
-gone_fewer v rows over party o h e s =
-    if_some o h (λ _. length (holders_in (set rows party None)) + 1 ≡ length v.holders) s.read (length_none party h rows s.there ∙ ap (λ (w : SeatList). length w.holders) e)
+pub gone_fewer : (v : SeatList) (rows : List (Option Holder)) (over party : ℕ) (o left : Option Holder) (h : Holder) → seat_list rows ≡ v → IsSilentRow rows over party o left h → IfSome o (λ _. length (holders_in (set rows party left)) + 1 ≡ length v.holders)
+gone_fewer v rows over party o left h e s =
+    rw s.emptied (if_some o h (λ _. length (holders_in (set rows party None)) + 1 ≡ length v.holders) s.read (length_none party h rows s.there ∙ ap (λ (w : SeatList). length w.holders) e))
 
-pub gone_counts : (v : SeatList) (rows : List (Option Holder)) (over party : ℕ) (o : Option Holder) (h : Holder) → seat_list rows ≡ v → IsSilentRow rows over party o h
-    → (test : Holder → Bool) → IfSome o (λ (g : Holder). count_by test (holders_in (set rows party None)) + cond (test g) 1 0 ≡ count_by test v.holders)
-gone_counts v rows over party o h e s test =
-    if_some o h (λ (g : Holder). count_by test (holders_in (set rows party None)) + cond (test g) 1 0 ≡ count_by test v.holders) s.read (count_in_row test party h rows s.there ∙ ap (λ (w : SeatList). count_by test w.holders) e)
+pub gone_counts : (v : SeatList) (rows : List (Option Holder)) (over party : ℕ) (o left : Option Holder) (h : Holder) → seat_list rows ≡ v → IsSilentRow rows over party o left h
+    → (test : Holder → Bool) → IfSome o (λ (g : Holder). count_by test (holders_in (set rows party left)) + cond (test g) 1 0 ≡ count_by test v.holders)
+gone_counts v rows over party o left h e s test =
+    rw s.emptied (if_some o h (λ (g : Holder). count_by test (holders_in (set rows party None)) + cond (test g) 1 0 ≡ count_by test v.holders) s.read (count_in_row test party h rows s.there ∙ ap (λ (w : SeatList). count_by test w.holders) e))
 
-pub gone_stay : (v : SeatList) (rows : List (Option Holder)) (over party : ℕ) (o : Option Holder) (h : Holder) → seat_list rows ≡ v → IsSilentRow rows over party o h → filter (is_heard over) (holders_in (set rows party None)) ≡ filter (is_heard over) v.holders
-gone_stay v rows over party o h e s = filter_in_row (is_heard over) party h rows s.there (le-ltb over h.beat s.silent) ∙ ap (λ (w : SeatList). filter (is_heard over) w.holders) e
+pub gone_stay : (v : SeatList) (rows : List (Option Holder)) (over party : ℕ) (o left : Option Holder) (h : Holder) → seat_list rows ≡ v → IsSilentRow rows over party o left h → filter (is_heard over) (holders_in (set rows party left)) ≡ filter (is_heard over) v.holders
+gone_stay v rows over party o left h e s =
+    rw s.emptied (filter_in_row (is_heard over) party h rows s.there (le-ltb over h.beat s.silent) ∙ ap (λ (w : SeatList). filter (is_heard over) w.holders) e)
 
 pub heard_seen : (v : SeatList) (rows read : List (Option Holder)) (marks : List (Option ℕ)) (over : ℕ) → seat_list rows ≡ v → read ≡ rows → AreMarked read marks → due_marks over marks ≡ 0 → filter (is_heard over) v.holders ≡ v.holders
 heard_seen v rows read marks over e same k none =

@@ -1,7 +1,12 @@
 -- How the seats are kept.
-use Rattle.std.specs.Prelude.{◌≡◌, ℕ, ◌≤◌, Bool, true, ◌&&◌, ◌==◌, suc, List, [], ◌∷◌, Option, None, Some, length, slice_index_or}
+use Rattle.std.specs.Prelude.{◌≡◌, ℕ, ◌≤◌, Bool, true, false, ◌&&◌, ◌==◌, suc, List, [], ◌∷◌, Option, None, Some, length, slice_index_or}
 use Rattle.options_machine.specs.declared.rows.Holder.{Holder}
 use Rattle.seat_rows.specs.Seats.{SeatList}
+
+-- who holds the seat of a row, in which the last to hold it stays behind
+abbrev pub held_by : Bool → Option Holder → Option Holder
+held_by true last = last
+held_by false last = None
 
 -- the holders in rows, one after another
 abbrev pub holders_in : List (Option Holder) → List Holder

@@ -6,7 +6,7 @@
 //! when the rows are made.
 #![tactic(auto)]
 
-ghost use Rattle.std.specs.Prelude.{◌≡◌, ◌+◌, ◌==◌, ◌<◌, ◌≤◌, [], None, Some, Bool, if◌then◌else◌, IfNone, IfOk, IfSome, count_by, filter, find, length, map, not};
+ghost use Rattle.std.specs.Prelude.{◌≡◌, ◌+◌, ◌==◌, ◌<◌, ◌≤◌, [], None, Some, Bool, if◌then◌else◌, IfNone, IfOk, IfSome, count_by, filter, find, length, map, not, replicate};
 ghost use Rattle.std.specs.Option.{option_copied};
 ghost use Rattle.options_machine.specs.declared.rows.Holder.{Holder};
 ghost use Rattle.options_machine.specs.State.{is_holder};
@@ -16,11 +16,14 @@ ghost use Rattle.seat_rows.specs.Rows.{holders_in};
 ghost use Rattle.seat_rows.specs.Seats.{IsSeatList, charged_if, is_heard};
 
 mod beats;
+mod row;
 mod silent;
 
 use beats::Beats;
+use lic_types::Client;
 pub use no_memory::NoMemory;
 use options_machine::{Charge, Holder};
+use row::Row;
 use silent::next_silent;
 use std::alloc::Global;
 use std::marker::Model;
@@ -29,7 +32,7 @@ use std::marker::Model;
 #[derive(Drop)]
 pub struct SeatRows {
     // The seat of each party, by its number.
-    rows: Vec<Option<Holder>>,
+    rows: Vec<Row>,
     held: u32,
     // A mark for each holder, at its last beat or before. It isn't the end of a timeout, so a new timeout changes
     // nothing here.
@@ -47,13 +50,24 @@ impl Model for SeatRows {
     ghost invariant = { λ s. AreKept s.rows.items s.held s.beats };
 }
 
+/// The rows of this many parties, none of which has a seat. The one error is want of memory.
+fn vacant_rows(alloc: Global, parties: usize) -> Result<Vec<Row>, NoMemory>
+    ensures { IfOk result (λ rows. rows.items ≡ replicate parties None) }
+{
+    let mut rows = Vec::with_capacity(alloc, parties)?;
+    for _ in 0..parties {
+        rows.push_reserved(Row::vacant());
+    }
+    Ok(rows)
+}
+
 /// The holders in rows, one after another. The one error is want of memory.
-fn holders_in(alloc: Global, rows: &[Option<Holder>]) -> Result<Vec<Holder>, NoMemory>
+fn holders_in(alloc: Global, rows: &[Row]) -> Result<Vec<Holder>, NoMemory>
     ensures { IfOk result (λ list. list.items ≡ holders_in rows.now) }
 {
     let mut list = Vec::new(alloc);
     for row in rows {
-        if let Some(holder) = row {
+        if let Some(holder) = row.holder() {
             list.push(*holder)?;
         }
     }
@@ -67,7 +81,7 @@ impl SeatRows {
         requires { parties ≤ 256 }
         ensures { IfOk result (λ seats. seats ≡ record { parties = parties; holders = [] }) }
     {
-        let rows = vec![in alloc; None; parties as usize]?;
+        let rows = vacant_rows(alloc, parties as usize)?;
         let beats = Beats::make(alloc, parties)?;
         Ok(SeatRows {
             rows,
@@ -104,7 +118,7 @@ impl SeatRows {
         ensures seat { option_copied result ≡ find (is_holder party) self.now.holders }
         ensures kept { IsSeatList self.now }
     {
-        self.rows[party as usize].as_ref()
+        self.rows[party as usize].holder()
     }
 
     /// All seats, in order of party. The one error is want of memory.
@@ -114,15 +128,16 @@ impl SeatRows {
         holders_in(alloc, self.rows.as_slice())
     }
 
-    /// Gives a party that has none this seat.
-    pub fn put(&mut self, holder: &Holder)
-        requires party { holder.now.party < self.old.parties }
-        requires none { find (is_holder holder.now.party) self.old.holders ≡ None }
-        ensures { self.new ≡ record self.old { holders = with_holder holder.now self.old.holders } }
+    /// Gives a party that has none a seat of this client, with this charge. It was heard at the moment `beat`, in seconds
+    /// since 1970-01-01 UTC, and it was told of the seat or not.
+    pub fn put(&mut self, party: u32, client: &Client, charge: Charge, beat: u64, told: bool)
+        requires party { party < self.old.parties }
+        requires none { find (is_holder party) self.old.holders ≡ None }
+        ensures { self.new ≡ record self.old { holders = with_holder (record { party = party; client = client.now; charge = charge; beat = beat; told = told }) self.old.holders } }
     {
-        self.rows[holder.party as usize] = Some(*holder);
+        self.rows[party as usize].put(party, client, charge, beat, told);
         self.held += 1;
-        self.beats.note(holder.party as usize, holder.beat);
+        self.beats.note(party as usize, beat);
     }
 
     /// Takes the party's seat away, if it has one.
@@ -130,8 +145,9 @@ impl SeatRows {
         requires { party < self.old.parties }
         ensures { self.new ≡ record self.old { holders = filter (λ h. not (is_holder party h)) self.old.holders } }
     {
-        if self.rows[party as usize].is_some() {
-            self.rows[party as usize] = None;
+        let row = &mut self.rows[party as usize];
+        if row.holder().is_some() {
+            row.clear();
             self.held -= 1;
         }
     }
@@ -142,9 +158,7 @@ impl SeatRows {
         requires { party < self.old.parties }
         ensures { self.new ≡ record self.old { holders = map (λ h. told_if (is_holder party h) now h) self.old.holders } }
     {
-        if let Some(holder) = &mut self.rows[party as usize] {
-            holder.told = true;
-            holder.beat = now;
+        if self.rows[party as usize].tell(now) {
             self.beats.note(party as usize, now);
         }
     }
@@ -154,9 +168,7 @@ impl SeatRows {
         requires { party < self.old.parties }
         ensures { self.new ≡ record self.old { holders = map (λ h. charged_if (is_holder party h) charge h) self.old.holders } }
     {
-        if let Some(holder) = &mut self.rows[party as usize] {
-            holder.charge = charge;
-        }
+        self.rows[party as usize].set_charge(charge);
     }
 
     /// Takes away the seat of one party that was not heard after the moment `over`, in seconds since 1970-01-01 UTC,
@@ -172,8 +184,9 @@ impl SeatRows {
         ensures heard { IfNone result (filter (is_heard over) self.old.holders ≡ self.old.holders) }
     {
         let party = next_silent(self.rows.as_slice(), &mut self.beats, over)?;
-        let gone = self.rows[party];
-        self.rows[party] = None;
+        let row = &mut self.rows[party];
+        let gone = row.holder().copied();
+        row.clear();
         self.held -= 1;
         gone
     }

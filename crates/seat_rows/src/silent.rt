@@ -5,11 +5,11 @@ ghost use Rattle.seat_rows.specs.Beats.{due_marks};
 ghost use Rattle.seat_rows.specs.Rows.{AreMarked};
 
 use crate::beats::Beats;
-use options_machine::Holder;
+use crate::row::Row;
 
 /// Whether the party, whose mark was taken out, has a seat and was not heard after this moment. Where it was heard, its
 /// last beat is its mark now.
-fn is_silent(rows: &[Option<Holder>], beats: &mut Beats, over: u64, party: usize) -> bool
+fn is_silent(rows: &[Row], beats: &mut Beats, over: u64, party: usize) -> bool
     requires inside { party < length rows.now }
     requires long { length beats.old ≡ length rows.now }
     requires none { slice_index_or beats.old party None ≡ None }
@@ -20,7 +20,7 @@ fn is_silent(rows: &[Option<Holder>], beats: &mut Beats, over: u64, party: usize
     ensures marked { result ≡ false → AreMarked rows.now beats.new }
     ensures due { due_marks over beats.new ≡ due_marks over beats.old }
 {
-    match &rows[party] {
+    match rows[party].holder() {
         None => false,
         Some(holder) => {
             let silent = holder.beat <= over;
@@ -34,7 +34,7 @@ fn is_silent(rows: &[Option<Holder>], beats: &mut Beats, over: u64, party: usize
 
 /// The party of a seat that was not heard after this moment, in seconds since 1970-01-01 UTC, whose mark is taken out;
 /// `None` where every holder was heard after it.
-pub fn next_silent(rows: &[Option<Holder>], beats: &mut Beats, over: u64) -> Option<usize>
+pub fn next_silent(rows: &[Row], beats: &mut Beats, over: u64) -> Option<usize>
     requires long { length beats.old ≡ length rows.now }
     requires marked { AreMarked rows.now beats.old }
     ensures long { length beats.new ≡ length rows.now }

@@ -31,13 +31,7 @@ fn client() -> Result<Client, Fail> {
 fn put(rt: &impl Abort, seats: &mut SeatRows, client: &Client, party: u32, beat: u64) {
     assert!(rt; party < seats.parties());
     assert!(rt; seats.get(party).is_none());
-    seats.put(&Holder {
-        party,
-        client: *client,
-        charge: Charge::Open,
-        beat,
-        told: false,
-    });
+    seats.put(party, client, Charge::Open, beat, false);
 }
 
 fn answer(rt: &impl Abort, seats: &mut SeatRows, client: &Client, call: Call) {
