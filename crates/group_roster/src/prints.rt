@@ -13,11 +13,11 @@ use std::marker::Model;
 /// How many marks there are for each name: so one in nine of the names that are none of theirs is looked for in vain.
 const MARKS_EACH: usize = 8;
 
-/// The print of a name: a number made of its bytes, which differs for most names that differ.
-pub fn name_print(name: &Name) -> u64
+/// The print of the name of these bytes: a number made of them, which differs for most names that differ.
+pub fn name_print(name: &[u8]) -> u64
     ensures { result ≡ name_print name.now }
 {
-    print_after(0, name.bytes())
+    print_after(0, name)
 }
 
 /// The print of a name, and a place to which the name leads.
@@ -90,7 +90,7 @@ impl Prints {
         ensures found { IfSome result (λ place. leads_to name.now place self.now ≡ true) }
         ensures none { IfNone result (has_print name.now self.now ≡ false) }
     {
-        let print = name_print(name);
+        let print = name_print(name.bytes());
         let at = self.marks[mark_at(print, self.marks.len())]?;
         match self.sorted.get(at as usize) {
             Some(first) if first.print == print => Some(first.place),

@@ -1,6 +1,6 @@
 -- Where a pool is found.
 use Rattle.std.proofs.Common.{◌≡◌, ℕ, ◌+◌, ◌-◌, ◌<◌, ◌∙◌, List, Bool, true, ◌&&◌, length, drop, take, get_or, Option, Some, None, IfSome, refl, sym, ap, subst, arith}
-use Rattle.std.proofs.lemmas.List.{length-drop}
+use Rattle.std.proofs.lemmas.List.{get_or_default, length-drop}
 use Rattle.std.proofs.Math.Seq.{take-length}
 use Rattle.std.specs.List.{find, position_from}
 use Rattle.std.specs.Option.{option_map}
@@ -85,10 +85,19 @@ rest_is : (seen pools : List Pool) (name : List ℕ) (key moment k : ℕ) (found
 rest_is seen pools name key moment k found same h =
     h ∙ ap (λ ps. route ps name key moment) (ap (λ n. take n (drop k seen)) (sym (length-drop k seen)) ∙ take-length (drop k seen) ∙ ap (drop k) same)
 
-pub routed_at : (seen pools : List Pool) (name : List ℕ) (key moment k i : ℕ) (first : Option ℕ) (found : Found) → first ≡ first_named pools name → first ≡ Some k → seen ≡ pools → found ≡ route (take (length seen - k) (drop k seen)) name key moment → found ≡ At i
-    → At (k + i) ≡ route pools name key moment
-routed_at seen pools name key moment k i first found h at same g is =
-    ap (behind k) (sym is ∙ rest_is seen pools name key moment k found same g) ∙ sym (route_on pools name key moment k (sym h ∙ at))
+-- the name of the pool at a place, as it was read
+name_at : (seen pools : List Pool) (k : ℕ) (x p : Pool) → k < length pools → seen ≡ pools → x ≡ get_or seen k x → x.name ≡ (get_or pools k p).name
+name_at seen pools k x p within same read = ap (λ (q : Pool). q.name) (read ∙ ap (λ (ps : List Pool). get_or ps k x) same ∙ get_or_default pools k x p within)
+
+-- the answer over the rest of the pools for the name of the first of them
+rest_at : (seen held pools : List Pool) (key moment k : ℕ) (x p : Pool) (found : Found) → k < length pools → seen ≡ pools → held ≡ pools → x ≡ get_or held k x → found ≡ route (take (length seen - k) (drop k seen)) x.name key moment → found ≡ route (drop k pools) (get_or pools k p).name key moment
+rest_at seen held pools key moment k x p found within same kept read h =
+    rest_is seen pools (get_or pools k p).name key moment k found same (h ∙ ap (λ n. route (take (length seen - k) (drop k seen)) n key moment) (name_at held pools k x p within kept read))
+
+pub routed_at : (seen held pools : List Pool) (key moment k i : ℕ) (x : Pool) (found : Found) → k < length pools → ((p : Pool) → first_named pools (get_or pools k p).name ≡ Some k) → seen ≡ pools → held ≡ pools → x ≡ get_or held k x
+    → found ≡ route (take (length seen - k) (drop k seen)) x.name key moment → found ≡ At i → (p : Pool) → At (k + i) ≡ route pools (get_or pools k p).name key moment
+routed_at seen held pools key moment k i x found within first same kept read g is p =
+    ap (behind k) (sym is ∙ rest_at seen held pools key moment k x p found within same kept read g) ∙ sym (route_on pools (get_or pools k p).name key moment k (first p))
 
 unmoved : (k : ℕ) (found : Found) → ((i : ℕ) → found ≡ At i → ⊥) → found ≡ behind k found
 unmoved k (At i) other = absurd (other i refl)
@@ -101,6 +110,7 @@ nowhere_within n Unknown other = tt
 nowhere_within n (Expired day) other = tt
 
 -- the answer where no pool serves
-pub routed_nowhere : (seen pools : List Pool) (name : List ℕ) (key moment k : ℕ) (first : Option ℕ) (found : Found) → first ≡ first_named pools name → first ≡ Some k → seen ≡ pools → found ≡ route (take (length seen - k) (drop k seen)) name key moment → ((i : ℕ) → found ≡ At i → ⊥) → found ≡ route pools name key moment
-routed_nowhere seen pools name key moment k first found h at same g nowhere =
-    unmoved k found nowhere ∙ ap (behind k) (rest_is seen pools name key moment k found same g) ∙ sym (route_on pools name key moment k (sym h ∙ at))
+pub routed_nowhere : (seen held pools : List Pool) (key moment k : ℕ) (x : Pool) (found : Found) → k < length pools → ((p : Pool) → first_named pools (get_or pools k p).name ≡ Some k) → seen ≡ pools → held ≡ pools → x ≡ get_or held k x
+    → found ≡ route (take (length seen - k) (drop k seen)) x.name key moment → ((i : ℕ) → found ≡ At i → ⊥) → (p : Pool) → found ≡ route pools (get_or pools k p).name key moment
+routed_nowhere seen held pools key moment k x found within first same kept read g nowhere p =
+    unmoved k found nowhere ∙ ap (behind k) (rest_at seen held pools key moment k x p found within same kept read g) ∙ sym (route_on pools (get_or pools k p).name key moment k (first p))

@@ -6,7 +6,7 @@ ghost use Rattle.office_view.specs.View.{first_named, named_from};
 
 use feature_lines::Pool;
 use group_roster::name_print;
-use lic_types::Name;
+use lic_types::{NameRef, same_bytes};
 use no_memory::NoMemory;
 use std::alloc::Global;
 
@@ -23,7 +23,7 @@ pub(crate) struct Chains {
 }
 
 /// The bucket of a name, among so many.
-fn bucket_of(name: &Name, buckets: usize) -> usize
+fn bucket_of(name: &[u8], buckets: usize) -> usize
     requires { 0 < buckets }
     ensures bucket { result ≡ bucket_of buckets name.now }
     ensures within { result < buckets }
@@ -40,7 +40,7 @@ impl Chains {
         let mut heads = vec![in alloc; None; buckets]?;
         let mut nexts = vec![in alloc; None; pools.len()]?;
         for i in (0..pools.len()).rev() {
-            let bucket = bucket_of(&pools[i].name, buckets);
+            let bucket = bucket_of(pools[i].name.bytes(), buckets);
             nexts[i] = heads[bucket];
             heads[bucket] = Some(i);
         }
@@ -48,14 +48,14 @@ impl Chains {
     }
 
     /// The first pool of a name among those that a chain leads to from here on.
-    fn named_in(&self, pools: &[Pool], start: Option<usize>, name: &Name) -> Option<usize>
+    fn named_in(&self, pools: &[Pool], start: Option<usize>, name: &[u8]) -> Option<usize>
         requires chained { AreChained self.now.heads.items self.now.nexts.items pools.now }
         requires there { IfSome start (λ i. i < length pools.now) }
         ensures { (from : ℕ) → start ≡ chained_from (length self.now.heads.items) (bucket_of (length self.now.heads.items) name.now) pools.now from → result ≡ named_from pools.now name.now from }
     {
         let mut at = start;
         while let Some(i) = at {
-            if pools[i].name == *name {
+            if same_bytes(pools[i].name.bytes(), name) {
                 return Some(i);
             }
             at = self.nexts[i];
@@ -64,10 +64,11 @@ impl Chains {
     }
 
     /// The first pool of a name.
-    pub(crate) fn first(&self, pools: &[Pool], name: &Name) -> Option<usize>
+    pub(crate) fn first(&self, pools: &[Pool], name: &NameRef<'_>) -> Option<usize>
         requires { AreChained self.now.heads.items self.now.nexts.items pools.now }
         ensures { result ≡ first_named pools.now name.now }
     {
+        let name = name.bytes();
         let bucket = bucket_of(name, self.heads.len());
         self.named_in(pools, self.heads[bucket], name)
     }
@@ -78,6 +79,6 @@ impl Chains {
         requires there { i < length pools.now }
         ensures { (p : Pool) → result ≡ named_from pools.now (get_or pools.now i p).name (i + 1) }
     {
-        self.named_in(pools, self.nexts[i], &pools[i].name)
+        self.named_in(pools, self.nexts[i], pools[i].name.bytes())
     }
 }

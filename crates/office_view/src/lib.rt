@@ -4,13 +4,13 @@
 mod chains;
 mod pool_list;
 
-ghost use Rattle.std.specs.Prelude.{◌≡◌, ◌<◌, ◌+◌, IfSome, get_or, length, vec_len};
+ghost use Rattle.std.specs.Prelude.{◌≡◌, ◌<◌, ◌+◌, IfSome, Some, get_or, length, vec_len};
 ghost use Rattle.feature_lines.specs.Route.{IsThere, route};
 ghost use Rattle.feature_lines.specs.declared.pool.Pool.{Pool};
 ghost use Rattle.office_view.specs.View.{first_named, named_from};
 
 use feature_lines::{Found, Pool};
-use lic_types::{Name, Version};
+use lic_types::{NameRef, Version};
 pub use pool_list::PoolList;
 use std::marker::Model;
 
@@ -72,7 +72,7 @@ impl<D> OfficeView<D> {
     }
 
     /// The first pool of a name.
-    pub fn first(&self, name: &Name) -> Option<usize>
+    pub fn first(&self, name: &NameRef<'_>) -> Option<usize>
         ensures first { result ≡ first_named self.now.pools name.now }
         ensures there { IfSome result (λ i. i < length self.now.pools) }
     {
@@ -88,13 +88,14 @@ impl<D> OfficeView<D> {
         self.pools.next(i)
     }
 
-    /// The pool that serves a checkout at a moment, in seconds since 1970-01-01 UTC. It is looked for from the first of
-    /// the name on, which [`first`](OfficeView::first) told.
-    pub fn route(&self, first: Option<usize>, name: &Name, version: Version, moment: u64) -> Found
-        requires { first ≡ first_named self.now.pools name.now }
-        ensures found { result ≡ route self.now.pools name.now version.key moment }
+    /// The pool that serves a checkout at a moment, in seconds since 1970-01-01 UTC, of the name of which this pool is
+    /// the first, as [`first`](OfficeView::first) told.
+    pub fn route(&self, first: usize, version: Version, moment: u64) -> Found
+        requires there { first < length self.now.pools }
+        requires first { (p : Pool) → first_named self.now.pools (get_or self.now.pools first p).name ≡ Some first }
+        ensures found { (p : Pool) → result ≡ route self.now.pools (get_or self.now.pools first p).name version.key moment }
         ensures there { IsThere (length self.now.pools) result }
     {
-        self.pools.route(first, name, version, moment)
+        self.pools.route(first, version, moment)
     }
 }

@@ -1,12 +1,12 @@
 //! The pools of a licence, which are found by name.
-ghost use Rattle.std.specs.Prelude.{◌≡◌, ◌<◌, ◌+◌, IfOk, IfSome, length, get_or};
+ghost use Rattle.std.specs.Prelude.{◌≡◌, ◌<◌, ◌+◌, IfOk, IfSome, Some, length, get_or};
 ghost use Rattle.feature_lines.specs.Route.{IsThere, route};
 ghost use Rattle.feature_lines.specs.declared.pool.Pool.{Pool};
 ghost use Rattle.office_view.specs.View.{first_named, named_from};
 
 use crate::chains::Chains;
 use feature_lines::{Found, Pool, find_pool};
-use lic_types::{Name, Version};
+use lic_types::{NameRef, Version};
 use no_memory::NoMemory;
 use std::alloc::Global;
 use std::marker::Model;
@@ -48,7 +48,7 @@ impl PoolList {
     }
 
     /// The first pool of a name.
-    pub fn first(&self, name: &Name) -> Option<usize>
+    pub fn first(&self, name: &NameRef<'_>) -> Option<usize>
         ensures first { result ≡ first_named self.now name.now }
         ensures there { IfSome result (λ i. i < length self.now) }
     {
@@ -64,19 +64,18 @@ impl PoolList {
         self.chains.next(self.pools.as_slice(), i)
     }
 
-    /// The pool that serves a checkout at a moment, in seconds since 1970-01-01 UTC. It is looked for from the first of
-    /// the name on, which [`first`](PoolList::first) told.
-    pub fn route(&self, first: Option<usize>, name: &Name, version: Version, moment: u64) -> Found
-        requires { first ≡ first_named self.now name.now }
-        ensures found { result ≡ route self.now name.now version.key moment }
+    /// The pool that serves a checkout at a moment, in seconds since 1970-01-01 UTC, of the name of which this pool is
+    /// the first, as [`first`](PoolList::first) told.
+    pub fn route(&self, first: usize, version: Version, moment: u64) -> Found
+        requires there { first < length self.now }
+        requires first { (p : Pool) → first_named self.now (get_or self.now first p).name ≡ Some first }
+        ensures found { (p : Pool) → result ≡ route self.now (get_or self.now first p).name version.key moment }
         ensures there { IsThere (length self.now) result }
     {
-        match first {
-            None => Found::Unknown,
-            Some(first) => match find_pool(&self.pools[first..], name, version, moment) {
-                Found::Pool(i) => Found::Pool(first + i),
-                other => other,
-            },
+        let name = &self.pools[first].name;
+        match find_pool(&self.pools[first..], name, version, moment) {
+            Found::Pool(i) => Found::Pool(first + i),
+            other => other,
         }
     }
 }

@@ -127,7 +127,7 @@ fn sorted(
                     grouped.push(*place)?;
                 } else {
                     printed.push(Printed {
-                        print: name_print(&who.name),
+                        print: name_print(who.name.bytes()),
                         place: *place,
                     })?;
                 }

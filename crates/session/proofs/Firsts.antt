@@ -4,7 +4,7 @@ use Rattle.std.proofs.lemmas.List.{drop_more}
 use Rattle.feature_lines.specs.declared.pool.Pool.{Pool}
 use Rattle.feature_lines.proofs.Keys.{same_name_is, same_name_self}
 use Rattle.lic_types.specs.Groups.{same_name}
-use Rattle.office_view.specs.View.{named_from}
+use Rattle.office_view.specs.View.{first_named, named_from}
 use Rattle.office_view.proofs.Searches.{IsHit, any_item, left_at, search_at, search_hits, search_leaves, search_skips}
 use Rattle.session.specs.Table.{first_from}
 
@@ -27,6 +27,13 @@ named_hit pools name k (Some i) h = λ p. same_name_is (get_or pools i p).name n
 pub named_next : (pools : List Pool) (name : List ℕ) (k : ℕ) (next : Option ℕ) → next ≡ named_from pools name k → IfSome next (λ i. (p : Pool) → (get_or pools i p).name ≡ name)
 named_next pools name k next e =
     subst (λ (o : Option ℕ). IfSome o (λ i. (p : Pool) → (get_or pools i p).name ≡ name)) (sym e) (named_hit pools name k (named_from pools name k) (search_hits (λ p. same_name p.name name) k (drop k pools) pools refl))
+
+-- where there is a first of a name, it is of the name, and the first of its own
+pub named_first : (pools : List Pool) (name : List ℕ) (first : Option ℕ) (i : ℕ) → first ≡ first_named pools name → first ≡ Some i → (p : Pool) → (get_or pools i p).name ≡ name
+named_first pools name first i e is = subst (λ (o : Option ℕ). IfSome o (λ j. (p : Pool) → (get_or pools j p).name ≡ name)) is (named_next pools name 0 first e)
+
+pub first_of_own : (pools : List Pool) (name : List ℕ) (first : Option ℕ) (i : ℕ) → first ≡ first_named pools name → first ≡ Some i → (p : Pool) → first_named pools (get_or pools i p).name ≡ Some i
+first_of_own pools name first i e is p = ap (first_named pools) (named_first pools name first i e is p) ∙ sym e ∙ is
 
 -- the pool behind one of the name
 pub next_is : (pools : List Pool) (name : List ℕ) (i : ℕ) (next : Option ℕ) → i < length pools → ((p : Pool) → (get_or pools i p).name ≡ name) → ((p : Pool) → next ≡ named_from pools (get_or pools i p).name (i + 1)) → next ≡ named_from pools name (i + 1)

@@ -1,5 +1,5 @@
 //! Which pool a request goes to.
-ghost use Rattle.std.specs.Prelude.{◌≡◌, ◌<◌, List, IfSome, length};
+ghost use Rattle.std.specs.Prelude.{◌≡◌, ◌<◌, ℕ, List, IfSome, length};
 ghost use Rattle.office_view.specs.View.{first_named};
 ghost use Rattle.feature_lines.specs.Route.{IsThere};
 ghost use Rattle.session.specs.Acts.{Act};
@@ -11,7 +11,7 @@ use crate::asked::Whom;
 use crate::asking::is_meant;
 use counter::Counter;
 use feature_lines::Found;
-use lic_types::{Name, NameRef, Version};
+use lic_types::{NameRef, Version};
 use office_view::OfficeView;
 
 /// Which pool of a name a session's request means.
@@ -24,7 +24,7 @@ enum Place {
 }
 
 /// The first pool of the name at which the session is holding or queued; where there is none, the first of the name.
-fn kept_pool<C: Counter>(office: &OfficeView<C::Desk>, pass: &[C], name: &Name) -> Place
+fn kept_pool<C: Counter>(office: &OfficeView<C::Desk>, pass: &[C], name: &NameRef<'_>) -> Place
     requires { length pass.now ≡ length office.now.pools }
     ensures pool { (o : Setup) (before : List Act) → Agrees C.account office.now o before pass.now → kept_at result ≡ kept_pool o before name.now }
     ensures place { IsPlaceIn office.now.pools name.now result }
@@ -40,28 +40,25 @@ fn kept_pool<C: Counter>(office: &OfficeView<C::Desk>, pass: &[C], name: &Name) 
     Place::First(first)
 }
 
-/// Where a request goes whose session keeps no place at a pool of that name, of which this is the first.
+/// Where a request goes whose session keeps no place at a pool of its name, of which this is the first.
 fn routed<D>(
     office: &OfficeView<D>,
     first: Option<usize>,
-    name: &Name,
     at: u64,
     version: Option<Version>,
 ) -> Found
-    requires { first ≡ first_named office.now.pools name.now }
-    ensures found { result ≡ found_by_route office.now.pools name.now at version }
+    requires { (name : List ℕ) × (first ≡ first_named office.now.pools name) }
+    ensures found { (name : List ℕ) → first ≡ first_named office.now.pools name → result ≡ found_by_route office.now.pools name at version }
     ensures there { IsThere (length office.now.pools) result }
 {
-    match version {
-        Some(version) => office.route(first, name, version, at),
-        None => match first {
-            Some(i) => Found::Pool(i),
-            None => Found::Unknown,
-        },
+    match (first, version) {
+        (None, _) => Found::Unknown,
+        (Some(i), None) => Found::Pool(i),
+        (Some(i), Some(version)) => office.route(i, version, at),
     }
 }
 
-/// Where a feature request goes. The office is asked with a copy of the name.
+/// Where a feature request goes.
 pub(crate) fn find<C: Counter>(
     office: &OfficeView<C::Desk>,
     pass: &[C],
@@ -73,10 +70,9 @@ pub(crate) fn find<C: Counter>(
     ensures found { (o : Setup) (before : List Act) → Agrees C.account office.now o before pass.now → result ≡ found_or (kept_pool o before name.now) (found_by_route o.pools name.now at version) }
     ensures there { IsThere (length office.now.pools) result }
 {
-    let name = name.name();
-    match kept_pool(office, pass, &name) {
+    match kept_pool(office, pass, name) {
         Place::Kept(i) => Found::Pool(i),
-        Place::First(first) => routed(office, first, &name, at, version),
+        Place::First(first) => routed(office, first, at, version),
     }
 }
 
@@ -90,8 +86,7 @@ pub(crate) fn find_shown<C: Counter>(
     ensures found { (o : Setup) (before : List Act) → Agrees C.account office.now o before pass.now → result ≡ or_else (kept_pool o before name.now) (first_named o.pools name.now) }
     ensures within { IfSome result (λ i. i < length office.now.pools) }
 {
-    let name = name.name();
-    match kept_pool(office, pass, &name) {
+    match kept_pool(office, pass, name) {
         Place::Kept(i) => Some(i),
         Place::First(first) => first,
     }

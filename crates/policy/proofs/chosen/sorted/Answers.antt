@@ -49,7 +49,7 @@ loop-place-preserved c =
             in_groups = rw w.grouped-is before.in_groups;
             of_groups = rw w.grouped-is (no_group (ap names_group who ∙ of_other));
             others =
-                rw (items, w.name_print.ensures)
+                rw (items, w.name_print.ensures, w.bytes.ensures.bytes)
                 (printed_more lines c.args.places.now i line c.loop-place.printed.items _ c.loop-place-test.true here (ap print_of who ∙ print_of-other w.in-Some.who of_other) ∙ before.others);
           }
     ]

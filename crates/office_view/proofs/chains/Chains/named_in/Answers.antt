@@ -17,6 +17,6 @@ loop-at-preserved c =
     record {
       within = within_next _ _ c.args.pools.now c.in-Some.i c.index-pools-i.result c.index-at.result.now c.requires.chained within c.index-at.ensures;
       on_way = λ from e. way_to_next _ _ c.args.pools.now c.args.name.now from c.in-Some.i c.index-pools-i.result c.index-at.result.now c.requires.chained within c.index-pools-i.is
-          (ap (λ (p : Pool). same_name p.name c.args.name.now) c.index-pools-i.is ∙ sym c.eq.ensures ∙ c.if-eq.false) c.index-at.ensures
+          (ap (λ (p : Pool). same_name p.name c.args.name.now) c.index-pools-i.is ∙ sym (c.same_bytes.ensures ∙ ap (λ n. same_name n c.args.name.now) c.bytes.ensures.bytes) ∙ c.if-same_bytes.false) c.index-at.ensures
           (subst (λ (o : Option ℕ). IsOnWay (length c.args.self.now.heads.items) c.args.pools.now c.args.name.now from o) c.in-Some.is (c.loop-at.invariant.on_way from e));
     }
