@@ -5,9 +5,9 @@
 # at rest. In each turn all clients ask for a second before it counts, and then for one that counts. A turn in which others
 # took more than 3 % of the processors is asked again, up to seven times.
 # `serve.sh turns`: 16 and 256 clients in many short turns of servers that are started anew twelve times, and of each server
-# the mean of its parts of the echo's requests in the same turns, with its error; it takes an hour. `serve.sh first`: the same
-# counted from the first request on, in half an hour. `serve.sh one`: the same where all share one processor, with 4 and 64
-# clients.
+# the mean of its parts of the echo's requests in the same turns, with its error, and how much of a best of five starts is
+# luck; it takes an hour. `serve.sh first`: the same counted from the first request on, in half an hour. `serve.sh one`: the
+# same where all share one processor, with 4 and 64 clients.
 # Build the program first: (cd crates/licence_main && rt run -- check data/licence data/options)
 cd "$(dirname "$0")/.." || exit 1
 peers=$(mktemp -d) || exit 1
