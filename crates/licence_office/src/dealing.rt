@@ -7,14 +7,15 @@ use feature_desk::DeskPass;
 use no_memory::NoMemory;
 use std::alloc::Global;
 
-/// An empty list for each party, with room for so many passes.
+/// An empty list for each party, with room for so many passes, and for one more: so no line of a processor's memory has
+/// passes of two parties, which their sessions write at each request.
 pub(crate) fn rooms(alloc: Global, parties: u32, each: usize) -> Result<Vec<OfficePass>, NoMemory>
     ensures count { IfOk result (λ made. vec_len made ≡ parties) }
     ensures rooms { IfOk result (λ made. All (IsRoomFor each) made.items) }
 {
     let mut passes = Vec::with_capacity(alloc, parties as usize)?;
     for _party in 0..parties {
-        passes.push_reserved(Vec::with_capacity(alloc, each)?);
+        passes.push_reserved(Vec::with_capacity(alloc, each.saturating_add(1))?);
     }
     Ok(passes)
 }

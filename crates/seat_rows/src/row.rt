@@ -9,6 +9,9 @@ use lic_types::Client;
 use options_machine::{Charge, Holder};
 use std::marker::Model;
 
+/// With the eight bytes in which a row ends this is a line of 64 bytes.
+const APART: usize = 7;
+
 /// The seat of a party, if it has one, which is what a clause sees. A seat that goes leaves its holder behind: so it
 /// takes one mark to empty a row, and the holder's names, which may fill six lines of the processor's, stay as they are.
 #[derive(Drop)]
@@ -16,6 +19,9 @@ pub struct Row {
     is_held: bool,
     // Who holds the seat, or held the last.
     holder: Option<Holder>,
+    // What lies between two rows, so that no line of a processor's memory has parts of both: each party's requests write
+    // at both ends of its row.
+    apart: [u64; APART],
 }
 
 impl Model for Row {
@@ -36,6 +42,7 @@ impl Row {
         Row {
             is_held: false,
             holder: None,
+            apart: [0; APART],
         }
     }
 

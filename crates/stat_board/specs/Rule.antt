@@ -28,9 +28,10 @@ pub record IsPublished (x : Front) (v : Option Front) (pending : List Front) (f 
   pub knows : v ≡ Some f
   pub done : pending ≡ []
 
--- what a board keeps: its word is that of its list, its writer knows what is shown, and nothing is pending while it is live
-pub record IsPosting (w : Named) (x : Front) (v : Option Front) (live : Bool) (pending : List Front) : Type 0 where
+-- what a board keeps: its word is that of its list, what is shown is its last front, which its writer knows, and nothing is pending while it is live
+pub record IsPosting (w : Named) (x y : Front) (v : Option Front) (live : Bool) (pending : List Front) : Type 0 where
   pub head : w ≡ head_of x.board
+  pub shown : y ≡ x
   pub knows : v ≡ Some x
   pub done : live ≡ true → pending ≡ []
 

@@ -27,8 +27,11 @@ use std::sync::Wait;
 /// live publishes nothing any more.
 pub struct Board {
     head: Head,
-    writer: NoteWriter,
     live: bool,
+    // As the writer has it too. Here it lies beside what each publishing writes: where the writer has it, the copy that
+    // readers take, another thread wrote it last, and the next publishing would wait for that memory.
+    last: BoardNote,
+    writer: NoteWriter,
 }
 
 impl Model for Board {
@@ -38,9 +41,9 @@ impl Model for Board {
 
     ghost Value = { Posted };
 
-    ghost view = { λ b. record { front = b.writer.desk.shown.value; live = b.live } };
+    ghost view = { λ b. record { front = b.last; live = b.live } };
 
-    ghost invariant = { λ b. IsPosting b.head b.writer.desk.shown.value (seat_view b.writer.desk.place) b.live (drop b.writer.behind b.writer.log.items) };
+    ghost invariant = { λ b. IsPosting b.head b.last b.writer.desk.shown.value (seat_view b.writer.desk.place) b.live (drop b.writer.behind b.writer.log.items) };
 }
 
 impl Board {
@@ -79,8 +82,9 @@ impl Board {
         }
         let board = Board {
             head,
-            writer,
             live: true,
+            last: note,
+            writer,
         };
         Ok((board, passes))
     }
@@ -97,15 +101,15 @@ impl Board {
         if !self.live {
             return;
         }
-        let next = self.writer.published().next(&self.head, entry, glance);
-        let Some(next) = next else {
+        let Some(next) = self.last.next(&self.head, entry, glance) else {
             self.live = false;
             return;
         };
-        if self.writer.append(next).is_err() {
+        if self.writer.append(next.copy()).is_err() {
             self.live = false;
             return;
         }
+        self.last = next;
         replace_with(&mut self.writer, rt, show::<R>);
     }
 
@@ -113,7 +117,7 @@ impl Board {
     pub fn note(&self) -> BoardNote
         ensures { result ≡ self.now.front }
     {
-        self.writer.published().copy()
+        self.last.copy()
     }
 
     /// Whether it still publishes.
@@ -127,8 +131,9 @@ impl Board {
     pub fn end<R: Wait>(self, rt: &R) {
         let Board {
             head: _head,
-            writer,
             live: _,
+            last: _last,
+            writer,
         } = self;
         drop(writer.take(rt));
     }
