@@ -13,7 +13,8 @@ from daemon import Daemon
 
 CLIENTS = (1, 16, 256)
 RUNS = 5
-TURNS = 3
+STARTS = 6
+TURNS = 2
 MILLISECONDS = 1000
 BEFORE = 1000
 DISTURBED = 0.03
@@ -117,9 +118,10 @@ def asked(program, peers, clients, turns, milliseconds, before=BEFORE):
 
 
 def run(program, peers, clients):
-    """Of the peers and the daemon on each site the mean of what their turns found, and the most that others took in one."""
-    found, most_taken = asked(program, peers, clients, TURNS, MILLISECONDS)
-    return {name: [mean(figure) for figure in zip(*turns)] for name, turns in found.items()}, most_taken
+    """Of the peers and the daemon on each site the mean of what the turns of all starts found, and the most that others took in one."""
+    starts, taken = zip(*(asked(program, peers, clients, TURNS, MILLISECONDS) for _ in range(STARTS)))
+    found = {name: [turn for start in starts for turn in start[name]] for name in starts[0]}
+    return {name: [mean(figure) for figure in zip(*turns)] for name, turns in found.items()}, max(taken)
 
 
 def best(runs):
